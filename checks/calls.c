@@ -6,8 +6,9 @@
    the standard input and output; on other files, but for the standard error, they are `read_file` and `write_file`. `malloc` is `realloc` too, and gets
    no memory. `sync` is `fsync` and `fdatasync`.
    KILL_AT: the program is killed before the call of this number, from 1 on, of all that change something; with KILL_HALF a write is made by half before,
-   with KILL_AFTER the call is made before.
+   with KILL_AFTER the call is made before. With KILL_STOP it is stopped there instead.
    CHANGE_AT, CHANGE_FILE, CHANGE_SIZE: before the `pread` of this number the file gets this size, or another first byte where that is -1.
+   WHOLE_SECONDS: the times of files have no nanoseconds.
    RECORD: a file that gets a line for each call that changes something, or fails as FAIL_CALL says, and behind it the bytes that were written. */
 #define _GNU_SOURCE
 #include <dlfcn.h>
@@ -91,6 +92,10 @@ static enum how fate(const char *name) {
 
 static enum how fate_of_change(const char *name) {
     if (atomic_fetch_add(&changes, 1) + 1 != kill_at) return fate(name);
+    if (getenv("KILL_STOP")) {
+        syscall(SYS_kill, syscall(SYS_getpid), SIGSTOP);
+        return fate(name);
+    }
     if (!is_half && !is_after) die();
     is_dying = 1;
     return is_half ? HALF : MADE;
@@ -185,7 +190,9 @@ int open(const char *name, int flags, ...) {
 int flock(int file, int how) { return fate("flock") != MADE ? -1 : (int)syscall(SYS_flock, file, how); }
 
 int statx(int folder, const char *restrict name, int flags, unsigned mask, struct statx *restrict out) {
-    return fate("statx") != MADE ? -1 : (int)syscall(SYS_statx, folder, name, flags, mask, out);
+    int done = fate("statx") != MADE ? -1 : (int)syscall(SYS_statx, folder, name, flags, mask, out);
+    if (!done && getenv("WHOLE_SECONDS")) out->stx_ctime.tv_nsec = out->stx_mtime.tv_nsec = 0;
+    return done;
 }
 
 int close(int file) {

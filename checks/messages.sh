@@ -383,6 +383,10 @@ for tool in vss orders timeline images backup tests prove; do
     [ ! -s "$room/err" ] || wrong "./$tool $word says on the standard error: $(cat "$room/err")"
   done
 done
+for words in "vss run" "orders seed" "timeline --text" "images cut"; do
+  # shellcheck disable=SC2086
+  has "$words --help" "$($words --help < /dev/null 2> /dev/null)" "./${words%% *} "
+done
 ./tests frist > "$room/out" 2> "$room/err"
 said "named frist; there are" " messages" "vss_tools"
 

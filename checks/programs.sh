@@ -97,11 +97,17 @@ echo > "$small/out"
 tells 70 "nothing can be written in"
 rm "$small/out"
 
-# two at once: one builds, and both run; closed streams
+# two at once, while a third builds: both say that they wait; then one builds, and both run; closed streams
 [ ! -e "$small/built" ] || wrong "it was built already"
+mkdir -p "$small/out/fast" && exec 8> "$small/out/fast/vss.lock" && flock 8
 for lane in 1 2; do
-  (echo "lane $lane" | "$small/vss" run > "$room/out.$lane" 2> "$room/err.$lane"; echo "$?" >> "$room/out.$lane") &
+  (echo "lane $lane" | "$small/vss" run > "$room/out.$lane" 2> "$room/err.$lane"; echo "$?" >> "$room/out.$lane") 8>&- &
 done
+for lane in 1 2; do
+  timeout 60 sh -c 'until grep -qs "vss is being built by another call; this one waits" "$1"; do sleep 0.1; done' wait "$room/err.$lane" ||
+    wrong "that another build is waited for is not said"
+done
+exec 8>&-
 wait
 for lane in 1 2; do
   [ "$(cat "$room/out.$lane")" = "lane $lane"$'\n0' ] && grep -q "an unproved build" "$room/err.$lane" || wrong "two at once: $(cat "$room/out.$lane" "$room/err.$lane")"

@@ -67,13 +67,13 @@ refuses_all() {
   printf 'report 1\n1 idle 5\nscenario 1\n' > "$room/in"
   refuses "$program" 3 "timeline: standard input: line 3: no line of a report"
   printf 'report 1\n\n\377\n' > "$room/in"
-  refuses "$program" 3 "timeline: standard input: line 3: no text"
+  refuses "$program" 3 "timeline: standard input: line 3: no text: is it a report, as the program wrote it?"
   : > "$room/in"
   refuses "$program" 3 "timeline: standard input: line 1: no line of a report"
   refuses "$program" 2 "$usage" examples/first.report
   refuses "$program" 2 "$usage" -x "$first" examples/first.report
   refuses "$program" 4 "timeline: $room/none: could not be read: No such file or directory (os error 2)" "$room/none" examples/first.report
-  refuses "$program" 8 "timeline: /dev/zero: too long" /dev/zero examples/first.report
+  refuses "$program" 8 "timeline: /dev/zero: too long: a scenario has 16,777,216 bytes at most, a report and an order 1,073,741,824" /dev/zero examples/first.report
   refuses "$program" 3 "timeline: examples/first.report: line 1: UnknownWord" examples/first.report "$first"
   refuses "$program" 3 "timeline: $room/in: line 1: Empty" "$room/in" examples/first.report
   printf 'report 1\n1 lane r 1 ok\n' > "$report"

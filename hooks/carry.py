@@ -6,6 +6,7 @@
 A line `hook WRITER COMMAND ..` of the job is the command of a writer's hook. `./backup` calls this; docs/FORMATS.md has the lines. Ctrl-C gives the
 backup up.
 """
+import math
 import os
 import selectors
 import shlex
@@ -14,11 +15,14 @@ import subprocess
 import sys
 import time
 
-# How often the program is woken, in seconds.
-WAKE = 0.05
-# The status of a job whose hooks are refused, and of a program that ended without a word.
-REFUSED = 3
-NO_WORD = 70
+# How often the program is woken, and how long an order is open before that is said, in seconds.
+WAKE, LONG = 0.05, 5
+# The status of a job whose hooks are refused, of a standard output that failed, and of a program that ended without a word.
+REFUSED, NO_OUTPUT, NO_WORD = 3, 5, 70
+
+
+def say(line):
+    print(f"backup: {line}", file=sys.stderr, flush=True)
 
 
 def started(command):
@@ -33,7 +37,7 @@ class Side:
         try:
             self.process = started(command)
         except OSError as error:
-            print(f"backup: hook {name}: {error}", file=sys.stderr)
+            say(f"hook {name}: {error}")
             self.process = started(["false"])
 
     def tell(self, line):
@@ -55,7 +59,7 @@ class Side:
 
 class Carrier:
     def __init__(self, program, folder, job, *record):
-        self.status, self.is_cancelled, self.hooks = None, False, {}
+        self.status, self.is_cancelled, self.is_heard, self.hooks = None, False, True, {}
         for number in (signal.SIGINT, signal.SIGTERM, signal.SIGHUP):
             signal.signal(number, self.cancel)
         for name, command in hooks_of(job):
@@ -68,15 +72,24 @@ class Carrier:
     def cancel(self, *_):
         self.is_cancelled = True
 
+    def show(self, line):
+        """Writes a line to the standard output, whose first failure is said."""
+        try:
+            os.write(1, line.encode() + b"\n")
+        except OSError as error:
+            if self.is_heard:
+                say(f"standard output: {error}")
+            self.is_heard = False
+
     def by_program(self, line):
         word, _, rest = line.partition(" ")
         if word == "order":
             name, number, order, nth = rest.split(" ")
             if name not in self.hooks:
-                print(f"backup: {name}: the job has no line `hook {name} ..`", file=sys.stderr)
+                say(f"{name}: the job has no line `hook {name} ..`")
                 self.program.tell(f"gone {name}")
                 return
-            self.hooks[name].open.append(number)
+            self.hooks[name].open.append((number, f"{order} {nth}", time.monotonic()))
             self.hooks[name].tell(f"{order} {nth}")
         elif word == "abort":
             if rest in self.hooks:
@@ -86,18 +99,22 @@ class Carrier:
         elif word == "end":
             self.status = int(rest)
         else:
-            print(line, flush=True)
+            self.show(line)
 
     def by_hook(self, hook, line):
         # a hook answers its orders one after another
         if hook.open:
-            self.program.tell(f"answer {hook.name} {hook.open.pop(0)} {line}")
+            number, order, _ = hook.open.pop(0)
+            if line != "ok":
+                say(f"the hook of {hook.name} answers `{order}` by {line[:200]!r}")
+            self.program.tell(f"answer {hook.name} {number} {line}")
 
     def read(self, side):
         lines = side.lines()
         if lines is None:
             self.select.unregister(side.process.stdout)
             if side is not self.program:
+                say(f"the hook of {side.name} has ended")
                 self.program.tell(f"gone {side.name}")
             elif self.status is None:
                 self.status = NO_WORD
@@ -106,6 +123,14 @@ class Carrier:
                 self.by_program(line)
             else:
                 self.by_hook(side, line)
+
+    def say_waits(self):
+        """Says of each order that is open for long, once, who has not answered it."""
+        for hook in self.hooks.values():
+            number, order, asked = hook.open[0] if hook.open else ("", "", math.inf)
+            if time.monotonic() - asked > LONG:
+                say(f"the hook of {hook.name} has not answered `{order}` for {LONG} seconds; Ctrl-C gives the backup up")
+                hook.open[0] = number, order, math.inf
 
     def run(self):
         woken = time.monotonic()
@@ -117,9 +142,10 @@ class Carrier:
                 self.program.tell("cancel")
             if time.monotonic() - woken >= WAKE:
                 woken = time.monotonic()
+                self.say_waits()
                 self.program.tell("tick")
         self.end()
-        return self.status
+        return self.status or (0 if self.is_heard else NO_OUTPUT)
 
     def end(self):
         """Ends the inputs, so that all let go, and then who does not end."""
@@ -134,7 +160,7 @@ class Carrier:
                 time.sleep(0.01)
             for hook in self.hooks.values():
                 if number and hook.process.poll() is None:
-                    print(f"backup: the hook of {hook.name} does not end: {number.name}", file=sys.stderr, flush=True)
+                    say(f"the hook of {hook.name} does not end: {number.name}")
                     os.killpg(hook.process.pid, number)
 
 
@@ -160,11 +186,21 @@ def hooks_of(job):
 
 
 def refuse(why):
-    print(f"backup: {why}", file=sys.stderr)
+    say(why)
     sys.exit(REFUSED)
 
 
+def fill_streams():
+    """Puts a file that fails in the place of a standard stream that is closed, so that no pipe takes its number."""
+    for stream in range(3):
+        try:
+            os.fstat(stream)
+        except OSError:
+            os.open(os.devnull, os.O_RDONLY if stream else os.O_WRONLY)
+
+
 if __name__ == "__main__":
+    fill_streams()
     if len(sys.argv) not in (4, 5):
         sys.exit(__doc__)
     sys.exit(Carrier(*sys.argv[1:]).run())

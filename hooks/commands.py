@@ -8,6 +8,7 @@ and at the end of the input.
 """
 import subprocess
 import sys
+from itertools import zip_longest
 
 from hook import Refused, serve
 
@@ -34,8 +35,9 @@ class Commands:
         self.run("freeze")
 
     def thaw(self):
-        was_frozen, self.is_frozen = self.is_frozen, False
+        # (what is not thawed is tried again: at a veto, at `abort` and at the end)
         self.run("thaw")
+        was_frozen, self.is_frozen = self.is_frozen, False
         if not was_frozen:
             raise Refused("it was not frozen")
 
@@ -49,11 +51,13 @@ class Commands:
 
 def wrong_in(words):
     """What is wrong with words, if something is."""
-    for word in words[::2]:
+    for word, command in zip_longest(words[::2], words[1::2]):
         if word[:2] != "--" or word[2:] not in ORDERS:
             return f"`{word}` is no option; they are --{', --'.join(ORDERS)}"
-    if len(words) % 2:
-        return f"behind {words[-1]} a command is missing; one of several words stands in quotes"
+        if words[::2].count(word) > 1:
+            return f"{word} is given twice"
+        if not command:
+            return f"behind {word} a command is missing; one of several words stands in quotes"
     missing = [word for word in ("--freeze", "--thaw") if word not in words[::2]]
     return f"{missing[0]} is missing" if missing else None
 

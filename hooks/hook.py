@@ -31,7 +31,7 @@ def serve(hook):
     for number in (signal.SIGINT, signal.SIGTERM):
         signal.signal(number, lambda *_: sys.exit(1))
     try:
-        for line in sys.stdin:
+        for line in sys.stdin or ():
             words = line.split() or [""]
             if words[0] == "abort":
                 hook.let_go()

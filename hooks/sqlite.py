@@ -8,6 +8,7 @@ says ok to `thaw` only if it held the lock to then. It waits at most SECONDS for
 With --job it writes a job that backs up the database and its log as the volumes `db` and `log`.
 """
 import os
+import pathlib
 import shlex
 import sqlite3
 import sys
@@ -34,7 +35,9 @@ class Database:
         self.name, self.path, self.seconds, self.lock = f"hook of {path}", path, seconds, None
 
     def connect(self):
-        return sqlite3.connect(f"file:{self.path}?mode=rw", uri=True, isolation_level=None, timeout=self.seconds)
+        # (a URI, so that no database is made; in a name `?`, `#` and `%` would mean something else there)
+        where = pathlib.Path(self.path).absolute().as_uri()
+        return sqlite3.connect(f"{where}?mode=rw", uri=True, isolation_level=None, timeout=self.seconds)
 
     def checkpoint(self, until):
         """Brings frames of the log into the database, until none is left or the time is over."""
@@ -87,23 +90,40 @@ class Database:
 
 
 def seconds_in(word):
+    """The seconds that a word says, if it says some."""
     try:
-        return float(word)
+        seconds = float(word)
     except ValueError:
-        sys.exit(f"sqlite.py: SECONDS is `{word}`, and no number")
+        return None
+    return seconds if 0 <= seconds <= 86400 else None
+
+
+def wrong_in(path, more, is_job):
+    """What is wrong with the database and the words behind it, if something is."""
+    if not path:
+        return "DATABASE is missing"
+    if path.startswith("-"):
+        return f"`{path}` is no option; a database of this name is `./{path}`"
+    if more[1 - is_job:]:
+        return f"`{more[-1]}` is one word too many; a name with spaces stands in quotes"
+    if more and seconds_in(more[0]) is None:
+        return f"SECONDS is `{more[0]}`, and has to be a number from 0 to 86400"
+    if is_job and "\n" in path:
+        return "a name with a newline has no place in a job"
+    return f"{path}: there is no such database" if is_job and not os.path.isfile(path) else None
 
 
 def main(words):
     if words in (["help"], ["--help"], ["-h"]):
-        print(__doc__)
-    elif len(words) == 2 and words[0] == "--job":
-        if not os.path.isfile(words[1]):
-            sys.exit(f"sqlite.py: {words[1]}: there is no such database")
-        print(job_of(words[1]), end="")
-    elif len(words) in (1, 2) and not words[0].startswith("-"):
-        serve(Database(words[0], seconds_in(words[1]) if len(words) == 2 else 30))
+        sys.exit(print(__doc__))
+    is_job = words[:1] == ["--job"]
+    path, *more = words[is_job:] or [""]
+    if wrong := wrong_in(path, more, is_job):
+        sys.exit(f"sqlite.py: {wrong}\n{__doc__}")
+    if is_job:
+        print(job_of(path), end="")
     else:
-        sys.exit(__doc__)
+        serve(Database(path, seconds_in(more[0]) if more else 30))
 
 
 if __name__ == "__main__":

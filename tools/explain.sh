@@ -1,5 +1,5 @@
 # What ./vss says below the program's one line on the standard error. It reads this file if the program ended with another status than 0, with
-# `program`, `slow` and `started_at` set, and the functions `usage` and `folder_of`. File 5 has what was read of a pipe or a terminal.
+# `program`, `slow` and `started_at` set, and the functions `usage`, `folder_of` and `quoted`. File 5 has what was read of a pipe or a terminal.
 # shellcheck shell=bash
 : "${program:?the program}" "${started_at:?where the standard input was}" "${slow?whether the build is slow}"
 
@@ -75,7 +75,7 @@ explain_area() {
     *" Magic "*)
       case "$(head -c 4096 < "$input" | tr -d '\0' | grep -am 1 -ve '^#' -e '^$')" in
         scenario*) echo "     it is a scenario: ./vss run < FILE" ;;
-        *) echo "     an area begins with the letters VSSAREA1" ;;
+        *) echo "     an area begins with the letters VSSAREA1; ./vss run FOLDER leaves them as NAME.area or NAME.shared" ;;
       esac
       ;;
     *" Layout "*) echo "     the layout, in the bytes 8 to 11, is 1 or 2" ;;
@@ -108,12 +108,18 @@ explain() {
     2)
       explain_by words "$@"
       if [ "$#" = 2 ] && [ "$1" = inspect ] && [ -f "$2" ]; then
-        echo "     the area is read from the standard input: ./vss inspect < $2"
+        echo "     the area is read from the standard input: ./vss inspect < $(quoted "$2")"
+      elif [ "$#" = 1 ] && [ -f "$1" ]; then
+        echo "     a scenario is read from the standard input: ./vss run < $(quoted "$1")"
       fi
       usage
       ;;
     3) explain_scenario ;;
-    4) echo "     the standard input could not be read to its end; nothing was run" ;;
+    4)
+      [ ! -d /dev/stdin ] || echo "     the standard input is a folder"
+      [ "$(readlink /proc/self/fd/0)" != /dev/null ] || echo "     the standard input is closed"
+      echo "     the standard input could not be read to its end; nothing was run; ./vss $1 < FILE reads a file"
+      ;;
     5) echo "     the standard output took only a first part of the text: is the disk full, or a pipe closed?" ;;
     6) explain_folder "$@" ;;
     7)

@@ -11,7 +11,8 @@ import subprocess
 import sys
 import time
 
-from room import HERE, HOOKS, Room, Wrong, judged
+from common import write
+from room import HERE, HOOKS, LIMIT, Room, Wrong, document, judged
 
 # The orders before a set is kept, and those behind.
 BEFORE = ("identify", "prepare_backup", "prepare_snapshot", "freeze", "thaw")
@@ -147,6 +148,12 @@ def full_area(room, is_all):
     if " freeze " in lines:
         raise Wrong("least 8: a writer was frozen")
     expect("the backup behind it", room.run(room.job(), folder="small"), KEPT, "kept")
+    before = room.sets("small")
+    for _backup in range(3):
+        room.runs_on()
+        expect("a veto", room.run(room.job(faulty(room, "freeze", "veto")), folder="small"), NOTHING, "VSS_E_WRITERERROR_OUTOFRESOURCES")
+    if room.sets("small") != before:
+        raise Wrong(f"a small area: vetoes left the sets {room.sets('small')} of {before}")
 
 
 def outgrown(room, is_all):
@@ -168,6 +175,38 @@ def no_room(room, is_all):
     expect("the backup behind it", room.run(room.job(), folder="narrow"), KEPT, "kept")
 
 
+def full_disk(room, is_all):
+    """The disk of the folder gets full while all stand still: a spool fails, or the end behind a veto. Only root mounts such a disk."""
+    disk = f"{room.path}/disk"
+    os.mkdir(disk)
+    if subprocess.run(["mount", "-t", "tmpfs", "-o", "size=4m", "tmpfs", disk], capture_output=True).returncode != 0:
+        return
+    try:
+        on_disk(room, disk)
+    finally:
+        subprocess.run(["umount", disk], check=True)
+
+
+def on_disk(room, disk):
+    write(f"{room.path}/file", os.urandom(1600000))
+    subprocess.run([room.images, "create", f"{disk}/store", "60", f"db={room.path}/file"], check=True)
+
+    def tried(freeze, status, line):
+        hook = f"{sys.executable} {HOOKS}/commands.py --freeze '{freeze}' --thaw true"
+        lines = ["job 1", f"volume db {room.path}/file", f"writer app {document('App', '1', 2, LIMIT)}", "files app main db", f"hook app {hook}"]
+        write(f"{room.path}/job", "\n".join(lines).encode() + b"\n")
+        expect(f"a full disk, `{freeze}`", room.run(f"{room.path}/job", folder="disk/store"), status, line)
+        if os.path.exists(f"{disk}/fill"):
+            os.remove(f"{disk}/fill")
+
+    fill, change = f"cat /dev/zero > {disk}/fill", f"head -c 1600000 /dev/urandom > {room.path}/file"
+    tried(f"{change}; {fill}; true", NOTHING, "db.spool: could not be written: No space left")
+    if room.sets("disk/store"):
+        raise Wrong("a full disk: a set is kept")
+    tried(f"{fill}; false", 6, "No space left")
+    tried("true", KEPT, "kept")
+
+
 def no_record(room, is_all):
     process = room.start(room.job(), record=f"{room.path}/none/record")
     got = process.wait(timeout=120), room.said(process)
@@ -176,7 +215,7 @@ def no_record(room, is_all):
         raise Wrong("a record that cannot be written: the folder was left open")
 
 
-ROWS = (wrong_answers, slow_answers, no_holds, strikes, kills, full_area, outgrown, no_room, no_record)
+ROWS = (wrong_answers, slow_answers, no_holds, strikes, kills, full_area, outgrown, no_room, full_disk, no_record)
 
 
 def main(words):

@@ -5,6 +5,7 @@ import shutil
 import subprocess
 import sys
 
+import beside
 import damage
 import failing
 import faults
@@ -18,7 +19,7 @@ import words
 TOP = os.path.dirname(os.path.dirname(os.path.dirname(os.path.abspath(__file__))))
 # the parts, with what each is given in the gate and by hand; None where it is left out there
 PARTS = (
-    (lists, (0, 80), (1000, 2000)), (kill, (3,), ()), (power, (9,), ()), (damage, (), None), (words, (), None),
+    (lists, (0, 80), (1000, 2000)), (kill, (3,), ()), (beside, (5,), (1,)), (power, (9,), ()), (damage, (997,), ()), (words, (), None),
     (torn, (20,), (500,)), (terminal, (), None), (faults, None, ()), (failing, None, ()),
 )
 
@@ -29,7 +30,7 @@ def main(program, folder, is_more):
     if has_library:
         subprocess.run(["cc", "-O1", "-shared", "-fPIC", "-o", library, f"{TOP}/checks/calls.c"], check=True)
     for part, *given in PARTS:
-        needs_library = part in (kill, power, faults, failing)
+        needs_library = part in (kill, beside, power, torn, faults, failing)
         if given[is_more] is None:
             continue
         if needs_library and not has_library:

@@ -3,8 +3,9 @@ status, and that nothing is changed.
 
 Each byte of the state is another, and it is cut off or longer; each of its fields is another below a digest that is
 made anew; the files of volumes and the area have other sizes; the length in a volume's last block has no room; a file
-is missing, or is a link; each bit of a marker is another. Folders and files are for their owner alone. And a second
-process is refused while a first has the folder.
+is missing, or is a link; each bit of a marker is another. A bit of each byte of volumes and of slots in use is another: `check`
+names the file and the block, and nothing that is shown with 0 has other bytes. A folder without sums is read and gets them. Folders
+and files are for their owner alone. And a second process is refused while a first has the folder.
 """
 import fcntl
 import hashlib
@@ -13,6 +14,7 @@ import shutil
 import subprocess
 import sys
 
+import plain
 from common import files_below, ran, read, write
 
 B = 16384
@@ -21,8 +23,8 @@ NOT_TRUSTED = b"images: F/images.state: digest: another; it is damaged, so nothi
 
 
 class Damage:
-    def __init__(self, program, room):
-        self.program, self.tried = program, 0
+    def __init__(self, program, room, step):
+        self.program, self.tried, self.step = program, 0, step
         os.chdir(room)
         write("db", b"a" * B * 2)
         write("wal", b"log")
@@ -59,7 +61,7 @@ class Damage:
             data[place] ^= 0x41
             for words in [["list", "F"]] + [["check", "F"], ["show", "F", "1", "db"], ["update", "F", "db=db"]] * (place == places[20]):
                 self.refuses("images.state", bytes(data), 9, words, NOT_TRUSTED)
-        for data, told in ((state[:-1], b"digest"), (state + b"x", b"digest"), (b"", b"size"), (state[:31], b"size"), (state + bytes(2_000_000), b"size")):
+        for data, told in ((state[:-1], b"digest"), (state + b"x", b"digest"), (b"", b"size"), (state[:31], b"size"), (state + bytes(5_000_000), b"size")):
             self.refuses("images.state", data, 9, ["list", "F"], b"images: F/images.state: " + told)
 
     def field(self, place, data, told, reseals=False):
@@ -81,7 +83,7 @@ class Damage:
         front = "front: not that of an area"
         for place, number, told in (
             (8, 0, catalog + "volume 0 has an image of set 1, which was not given"),
-            (12, 0, front), (12, self.number(12) + 1, front), (12, 2**32 - 1, catalog + "cut off"),
+            (12, 0, catalog + "the digest is another"), (12, self.number(12) + 1, front), (12, 2**32 - 1, catalog + "cut off"),
             (header + 8, 3, of_header + "3 in field Layout"), (header + 12, 70000, front), (header + 12, 2000, front),
             (header + 16, 9, of_header + "9 in field Used"), (header + 20, 0, of_header + "0 in field Volumes"),
             (header + 20, 1, of_header + "1 in field Rest"), (header + 24, 0, of_header + "0 in field Blocks"),
@@ -116,7 +118,7 @@ class Damage:
         for name in ("db.vol", "wal.vol"):
             data = self.whole[name]
             for other in (data[:-1], data + b"x", b"", data + data):
-                for words in (["list", "F"], ["cut", "F", "db"], ["update", "F", "db=db"], ["check", "F"]):
+                for words in (["digest", "F", name[:-4]], ["cut", "F", "db"], ["update", "F", "db=db"], ["check", "F"]):
                     self.refuses(name, other, 9, words, f"images: F/{name}: size: {len(other)}, and {len(data)} are wanted".encode())
         area = self.whole["images.area"]
         for other in (area[:-1], area + b"x", b"", area + bytes(B), area[:-B]):
@@ -128,13 +130,124 @@ class Damage:
             for length in (len(data) - 7, len(data), 2**32, 2**64 - 2):
                 other = data[:-8] + length.to_bytes(8, "little")
                 told = f"images: F/{name}: length: {length} in {len(data)} bytes".encode()
+                write("F/images.state", self.with_sums(**{name[:-4]: other}))
                 for words in (["list", "F"], ["check", "F"], ["show", "F", name[:-4]], ["digest", "F", name[:-4]]):
                     self.refuses(name, other, 9, words, told)
+                write("F/images.state", self.whole["images.state"])
+
+    def with_sums(self, **changed):
+        """The state with the sums of these bytes of files."""
+        files = {**self.whole, **{f"{name}.vol": data for name, data in changed.items()}}
+        head, front, _sums, _slots = plain.parts_of(files["images.state"])
+        state = head + front + plain.sums_of(files["images.state"], (files["db.vol"], files["wal.vol"]), files["images.area"])
+        return state + hashlib.sha256(state).digest()
+
+    def shown(self, right, what):
+        """All that is shown with 0 is right; the rest ends with 9 and one line. Returns what was refused."""
+        refused = []
+        for words, wanted in right.items():
+            got = self.run("show", "F", *words.split())
+            if got.returncode == 9 and got.stderr.count(b"\n") == 1 and b"its sum is another" in got.stderr:
+                refused.append(words)
+            elif got.returncode or got.stdout != wanted:
+                sys.exit(f"{what}: show {words}: {got.returncode} {got.stderr}")
+        return refused
+
+    def sums(self):
+        """The sums are those of the files. Each byte that is another is found, and is not shown, nor kept by an update."""
+        if self.with_sums() != self.whole["images.state"]:
+            sys.exit("the state has other sums")
+        right = {words: self.run("show", "F", *words.split()).stdout for words in ("db", "wal", "1 db", "1 wal")}
+        places = [(name, at) for name in ("db.vol", "wal.vol") for at in range(0, len(self.whole[name]), self.step)]
+        places += [("images.area", at) for at in range(2 * B, 4 * B, self.step)]
+        needed = {("db.vol", block): ["db"] for block in range(3)} | {("wal.vol", 0): ["wal", "1 wal"]} | {("images.area", block): ["1 db"] for block in (2, 3)}
+        needed["db.vol", 2] = ["db", "1 db"]
+        for number, (name, at) in enumerate(places):
+            data, block = bytearray(self.whole[name]), at // B
+            data[at] ^= 1 << number % 8
+            told = f"slot {block - 2}: its sum is another than is kept; it has block {block - 2} of F/db.vol for set 1" if name == "images.area" else f"block {block}: its sum is another"
+            self.refuses(name, bytes(data), 9, ["check", "F"], f"images: F/{name}: {told}".encode())
+            write(f"F/{name}", bytes(data))
+            if self.shown(right, f"byte {at} of {name}") != needed[name, block]:
+                sys.exit(f"byte {at} of {name}: it is shown")
+            write(f"F/{name}", self.whole[name])
+        self.replaced(right)
+
+    def lists(self):
+        """A list of which a byte is another, or that is cut off or none, is refused and stays, but where a call needs none of it. One without a digest is
+        of an earlier program."""
+        self.must("cut", "--note", "the second", "F", "db", "wal")
+        self.whole = {name.partition("/")[2]: data for name, data in files_below("F").items()}
+        for name, words in (("images.dates", ["sets", "F"]), ("images.together", ["check", "F"])):
+            data, told = self.whole[name], f"images: F/{name}: digest: another; ".encode()
+            spoilt = [data[:at] + bytes([data[at] ^ 1 << at % 8]) + data[at + 1:] for at in range(len(data))]
+            for number, other in enumerate((*spoilt, b"", b"\n", data[:-1], data + b"x", b"\xff\n", bytes(1 << 25))):
+                self.refuses(name, other, 9, words, told)
+                for more in (["check", "F"], ["list", "--json", "F"], ["cut", "F", "db"]) if name == "images.dates" and number % 40 == 0 else ():
+                    self.refuses(name, other, 9, more, told)
+            write(f"F/{name}", data[72:])
+            for more in (["check", "F"], ["sets", "F"]):
+                self.must(*more)
+            write(f"F/{name}", data)
+        write("F/images.together", b"?")
+        got, more = self.run("cut", "F", "db", "wal"), self.run("update", "F", "db=db")
+        if got.returncode or got.stderr.count(b"\n") != 2 or b"not brought to their files by one update" not in got.stderr or more.returncode \
+                or read("F/images.together")[72:] != b"db\n" or self.run("check", "F").returncode:
+            sys.exit(f"cut beside a damaged list: {got} {more}")
+        self.whole = {name.partition("/")[2]: data for name, data in files_below("F").items()}
+
+    def replaced(self, right):
+        """An update writes a damaged block anew that no image has, and is refused where one has it."""
+        for name, block, file in (("db", 1, "db"), ("wal", 0, "wal")):
+            data = bytearray(self.whole[f"{name}.vol"])
+            data[B * block + 7] ^= 8
+            shutil.copytree("F", "kept")
+            write(f"F/{name}.vol", bytes(data))
+            is_free, told = name == "db", self.run("update", "--dry-run", "F", f"{name}={file}")
+            got = self.run("update", "F", f"{name}={file}")
+            if told.returncode != got.returncode or got.returncode != (0 if is_free else 9) or is_free and self.run("check", "F").returncode or self.shown(right, "an update") != ([] if is_free else ["wal", "1 wal"]):
+                sys.exit(f"update over block {block} of {name}: {got.returncode} {got.stderr}")
+            shutil.rmtree("F")
+            os.rename("kept", "F")
+            self.tried += 1
+
+    def lost(self):
+        """Where one volume is lost or has another size the others are listed and shown."""
+        for what, status in ((None, 6), (b"", 9)):
+            os.remove("F/db.vol")
+            if what is not None:
+                write("F/db.vol", what)
+            for words, want, out in ((["show", "F", "wal"], 0, b"log"), (["show", "F", "1", "wal"], 0, b"log"), (["show", "F", "db"], status, b""),
+                                     (["show", "F", "1", "db"], status, b""), (["list", "F"], status, b"volume wal blocks 1 length 3\n"),
+                                     (["list", "--json", "F"], status, b'"length":null'), (["list", "--json", "F"], status, b'"length":3')):
+                got = self.run(*words)
+                if got.returncode != want or got.stderr.count(b"\n") != 1 or not got.stderr.startswith(b"images: F/db.vol: ") or out not in got.stdout:
+                    sys.exit(f"without db.vol, {words}: {got.returncode} {got.stdout[:99]} {got.stderr}")
+                self.tried += 1
+            write("F/db.vol", self.whole["db.vol"])
+
+    def earlier(self):
+        """A folder without sums, as of an earlier program, is read; its first change gives each block its sum."""
+        state = plain.without_sums(self.whole["images.state"])
+        for words in (["cut", "F", "wal"], ["update", "F", "db=wal"], ["revert", "F", "1", "db"]):
+            shutil.copytree("F", "kept")
+            write("F/images.state", state)
+            for read_by, out in ((["check", "F"], b"whole: "), (["show", "F", "1", "db"], b"a" * B), (["list", "F"], b"volume db")):
+                got = self.run(*read_by)
+                if got.returncode or not got.stdout.startswith(out) or (b"has no sums" in got.stderr) != (read_by[0] == "check") or read("F/images.state") != state:
+                    sys.exit(f"without sums, {read_by}: {got.returncode} {got.stderr}")
+            self.must(*words)
+            files = {name.partition("/")[2]: data for name, data in files_below("F").items()}
+            if plain.parts_of(files["images.state"])[2] != plain.sums_of(files["images.state"], (files["db.vol"], files["wal.vol"]), files["images.area"]):
+                sys.exit(f"{words} gave other sums")
+            shutil.rmtree("F")
+            os.rename("kept", "F")
+            self.tried += 1
 
     def missing(self):
         for name, status in (("db.vol", 6), ("images.area", 6), ("images.state", 3)):
             os.remove(f"F/{name}")
-            got = self.run("list", "F")
+            got = self.run("cut", "F", "wal")
             if got.returncode != status or got.stdout:
                 sys.exit(f"without {name}: {got.returncode} {got.stderr}")
             write(f"F/{name}", self.whole[name])
@@ -169,7 +282,7 @@ class Damage:
         for name in ("db.vol", "images.area", "images.state"):
             os.rename(f"F/{name}", "other")
             os.symlink("../other", f"F/{name}")
-            for words in (["update", "F", "db=wal"], ["cut", "F", "db"], ["list", "F"], ["show", "F", "db"], ["check", "F"]):
+            for words in (["update", "F", "db=wal"], ["cut", "F", "db"], ["digest", "F", "db"], ["show", "F", "db"], ["check", "F"]):
                 got = self.run(*words)
                 if got.returncode != 9 or got.stdout or f"F/{name}: is no file\n".encode() not in got.stderr:
                     sys.exit(f"a link at {name}, {words}: {got.returncode} {got.stderr}")
@@ -199,15 +312,15 @@ class Damage:
         shutil.rmtree("G")
 
     def in_use(self):
-        """A folder that another process has is refused; readers share it."""
+        """A folder that another process has is refused, but for its images; readers share it."""
         held = os.open("F", os.O_RDONLY)
-        readers, cut = [["list", "F"], ["show", "F", "db"], ["check", "F"]], ["cut", "F", "db"]
-        beside = (fcntl.LOCK_EX, [*readers, cut], []), (fcntl.LOCK_SH, [cut, ["update", "F", "db=db"]], readers)
+        readers, images, cut = [["show", "F", "db"], ["check", "F"]], [["list", "F"], ["show", "F", "1", "db"]], ["cut", "F", "db"]
+        beside = (fcntl.LOCK_EX, [*readers, cut], images), (fcntl.LOCK_SH, [cut, ["update", "F", "db=db"]], readers + images)
         for how, refused, allowed in beside:
             fcntl.flock(held, how)
             for words in refused + allowed:
                 got, want = self.run(*words), 10 if words in refused else 0
-                if got.returncode != want or want and got.stderr != b"images: F: in use by another process; images --wait SECONDS waits\n":
+                if got.returncode != want or want and got.stderr != b"images: F: in use by another process; ./images waits for it with --wait SECONDS before F\n":
                     sys.exit(f"{words} beside another: {got.returncode} {got.stderr}")
                 self.tried += 1
             fcntl.flock(held, fcntl.LOCK_UN)
@@ -230,9 +343,9 @@ class Damage:
         self.tried += 1
 
 
-def main(program, room):
-    damage = Damage(program, room)
-    for part in ("state", "fields", "last_set", "sizes", "lengths", "missing", "modes", "links", "markers", "in_use"):
+def main(program, room, step=1):
+    damage = Damage(program, room, step)
+    for part in ("state", "fields", "last_set", "sizes", "lengths", "sums", "lost", "earlier", "missing", "modes", "links", "markers", "in_use", "lists"):
         getattr(damage, part)()
     if {name.partition("/")[2]: data for name, data in files_below("F").items()} != damage.whole:
         sys.exit("the folder is another at the end")

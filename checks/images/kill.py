@@ -53,6 +53,28 @@ SCENES = {
          {"db": bytes_of("CB"), "wal": bytes_of("y")}, ["update", "F", "db=db", "wal=wal"]],
         {}, ["delete", "F", "2"],
     ),
+    "grow": (
+        {"db": bytes_of("abcd", b"end"), "wal": bytes_of("xy")},
+        [["create", "F", "6", "db=db", "wal:4=wal"], ["cut", "F", "db", "wal"], {"db": bytes_of("aBcd", b"end")}, ["update", "F", "db=db"], ["cut", "F", "db"],
+         {"db": bytes_of("ABcd", b"longer")}, ["update", "F", "db=db"]],
+        {}, ["grow", "F", "1100"],
+    ),
+    "grow a volume": (
+        {"db": bytes_of("ab", b"end"), "wal": b"log"},
+        [["create", "F", "8", "db=db", "wal=wal"], ["cut", "F", "db", "wal"], {"db": bytes_of("aB", b"other")}, ["update", "F", "db=db"], ["cut", "F", "db"],
+         {"db": bytes_of("aB", b"a third")}, ["update", "F", "db=db"]],
+        {}, ["grow", "F", "db=5"],
+    ),
+    "add": (
+        {"db": bytes_of("ab", b"end"), "wal": b"log", "new": bytes_of("n\0", b"ew")},
+        [["create", "F", "4", "db=db"], ["cut", "F", "db"], {"db": bytes_of("aB", b"other")}, ["update", "F", "db=db"]],
+        {}, ["add", "F", "new=new"],
+    ),
+    "remove": (
+        {"db": bytes_of("ab", b"end"), "wal": b"log"},
+        [["create", "F", "4", "wal=wal", "db=db"], ["cut", "F", "db", "wal"], {"db": bytes_of("aB", b"other"), "wal": b"more"}, ["update", "F", "db=db", "wal=wal"]],
+        {}, ["remove", "F", "wal"],
+    ),
     "create": ({"db": bytes_of("ab", b"end"), "wal": b"short", "empty": b""}, [], {}, ["create", "F", "6", "db:4=db", "wal=wal", "empty=empty"]),
 }
 
@@ -106,7 +128,11 @@ class Scene:
 
     def may_miss(self, name, number):
         """Whether an image may be missing."""
-        return any(v.name == name and v.image(number) is None for store in self.stores() for v in store.volumes)
+        return any(v is None or v.image(number) is None for v in self.both(name))
+
+    def both(self, name):
+        """The volume of a name before and after, or None."""
+        return [next((v for v in store.volumes if v.name == name), None) for store in self.stores()]
 
     def shown_image(self, folder, place, name, number, data):
         """Shows an image. Whether it is there, and then it has its bytes."""
@@ -124,11 +150,11 @@ class Scene:
                 self.wrong(place, f"image {number} of {name} is gone")
             if is_there and f"evicted set {number} {name}\n".encode() in printed:
                 self.wrong(place, f"image {number} of {name} was printed as evicted, and is there")
-        for v, w in zip(self.stores()[0].volumes, self.stores()[-1].volumes):
-            got = self.run(folder, ["show", "F", v.name])
-            is_right = got.stdout in (v.data, w.data) if got.returncode == 0 else got.returncode == 11 and torn
+        for name in {v.name for store in self.stores() for v in store.volumes}:
+            got, both = self.run(folder, ["show", "F", name]), self.both(name)
+            is_right = got.stdout in [v.data for v in both if v] if got.returncode == 0 else got.returncode == 11 and torn or got.returncode == 3 and None in both
             if not is_right:
-                self.wrong(place, f"{v.name}: {got.returncode} {got.stderr}")
+                self.wrong(place, f"{name}: {got.returncode} {got.stderr}")
         self.look_at_calls(folder, place, torn, printed)
 
     def look_at_calls(self, folder, place, torn, printed):
@@ -151,7 +177,7 @@ class Scene:
             self.wrong(place, f"list: {listed.returncode} {listed.stdout} {listed.stderr}")
 
     def names(self):
-        return [v.name for v in self.stores()[0].volumes]
+        return [v.name for v in self.stores()[0].volumes if None not in self.both(v.name)]
 
     def look_at_files(self, folder, place):
         """Each volume has its file, and all is whole."""
@@ -162,6 +188,9 @@ class Scene:
         checked = self.run(folder, ["check", "F"])
         if checked.returncode:
             self.wrong(place, f"check after an update: {checked.returncode} {checked.stderr}")
+        listed = self.run(folder, ["list", "F"]).stdout.decode().split()
+        if any(name.endswith(".vol") and name[:-4] not in listed for name in os.listdir(os.path.join(folder, "F"))):
+            self.wrong(place, "the file of a volume that is none is left after an update")
 
     def mend(self, folder, place):
         """Updates all, and compares again."""

@@ -85,13 +85,31 @@ class Drawing:
             return ["show", "F", *([self.number_of_set()] if self.draw.random() < 0.8 else []), self.name()]
         if kind < 0.70:
             return ["digest", "F", *([self.number_of_set()] if self.draw.random() < 0.8 else []), self.name()]
-        if kind < 0.78:
+        if kind < 0.74:
             return ["list", "F"]
+        if kind < 0.78:
+            sets = [self.number_of_set() for _ in range(self.draw.choice([1, 2, 2]))]
+            return ["diff", "F", *sets, *([self.name()] if self.draw.random() < 0.4 else [])]
         if kind < 0.85:
             return ["delete", "F", self.number_of_set(), *([self.name()] if self.draw.random() < 0.5 else [])]
-        if kind < 0.93:
+        if kind < 0.90:
             return ["revert", "F", self.number_of_set(), self.name()]
-        return self.other()
+        return self.shape() if kind < 0.97 else self.other()
+
+    def shape(self):
+        """A call that changes the volumes or the slots."""
+        store = self.plain.stores.get("F")
+        kind = self.draw.random()
+        if kind < 0.3:
+            return ["grow", "F", str((store.slots if store else 0) + self.draw.choice([0, 1, 2, 5, 1024, 3000]))]
+        if kind < 0.6:
+            count = {v.name: v.count for v in store.volumes} if store else {}
+            name = self.name()
+            return ["grow", "F", f"{name}={count.get(name, 1) + self.draw.choice([0, 1, 1, 3, 70000])}"]
+        if kind < 0.8:
+            return ["remove", "F", self.name()]
+        self.new_file("new", 40000)
+        return ["add", "F", f"{self.draw.choice(self.names + ['x.2'])}{self.draw.choice(['', '', ':4', ':0'])}={self.draw.choice(['new', 'new', 'new', '-'])}"]
 
     def other(self):
         return self.draw.choice([
@@ -102,6 +120,8 @@ class Drawing:
             ["create", "G", "4", "a:65536=db", "b:65536=db", "c:1=db"], ["create", "folder", "4", "a=db"], ["update", "F"], ["revert", "F", "1"],
             ["create", "G", "4", "a=-"], ["update", "--tries", "0", "F", "db=db"], ["update", "--tries", "F", "db=db"], ["list", "--tries", "1", "F"],
             ["create", "G", "a=db"], ["show", "F", "db", "1"], ["digest", "F", "db", "0"], ["delete", "F", "db", "2"], ["revert", "F", "db", "1"],
+            ["grow", "F"], ["grow", "F", "x"], ["grow", "F", "db=x"], ["grow", "F", "70000"], ["add", "F", "db"], ["add", "F", "9=db"], ["add", "F", "n=missing"],
+            ["add", "--tries", "2", "F", "n=folder"], ["remove", "F"], ["remove", "F", "none"],
         ])
 
 
@@ -115,6 +135,7 @@ def drawn(drawing):
         for v in drawing.plain.stores["F"].volumes:
             yield ["show", "F", v.name]
             yield from (["show", "F", str(i.set), v.name] for i in v.images)
+            yield from (["diff", "F", str(i.set), *([str(v.images[-1].set)] if i.set % 2 else []), v.name] for i in v.images)
 
 
 def limits(drawing):

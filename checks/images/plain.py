@@ -12,15 +12,19 @@ BLOCK = 16384
 FORMS = {
     "create": "create [--tries N] F SLOTS NAME[:BLOCKS]=FILE ..",
     "cut": "cut [--note TEXT] F NAME ..",
-    "update": "update [--tries N] [--keep N] F NAME=FILE ..",
+    "update": "update [--dry-run] [--tries N] [--keep N] F NAME=FILE ..",
     "list": "list [--json] F",
     "sets": "sets F",
+    "diff": "diff [--json] F SET [SET] [NAME]",
     "show": "show F [SET] NAME",
     "restore": "restore [--over] F [SET] NAME FILE, restore [--over] F SET FOLDER",
     "digest": "digest F [SET] NAME",
     "delete": "delete F SET [NAME]",
     "prune": "prune --keep N F",
     "revert": "revert F SET NAME",
+    "grow": "grow F SLOTS, grow F NAME=BLOCKS",
+    "add": "add [--tries N] F NAME[:BLOCKS]=FILE",
+    "remove": "remove F NAME",
     "check": "check F",
 }
 SLOTS = "; SLOTS says for how many old blocks of 16,384 bytes there is room: as many as change while a version is kept"
@@ -60,15 +64,58 @@ def blocks_of(data, count):
     return [whole[BLOCK * b:BLOCK * (b + 1)] for b in range(count)]
 
 
+def runs_of(blocks):
+    """The words of blocks as runs of neighbours."""
+    firsts = [b for b in sorted(blocks) if b - 1 not in blocks]
+    lasts = [b for b in sorted(blocks) if b + 1 not in blocks]
+    return ",".join(str(first) if first == last else f"{first}-{last}" for first, last in zip(firsts, lasts))
+
+
+def sum_of(block):
+    """The sum of a block: of its numbers of four bytes the sum, and the sum of the sums up to each."""
+    first = second = 0
+    for word in struct.unpack("<4096I", block):
+        first += word
+        second += first
+    return struct.pack("<2Q", first, second)
+
+
+def parts_of(state):
+    """The head of a state, its front, its sums, and the number of its slots."""
+    end = 16 + int.from_bytes(state[12:16], "little")
+    slots = int.from_bytes(state[end + 12:end + 16], "little")
+    sums = end + BLOCK * (1 + -(-slots // 1024))
+    return state[:end], state[end:sums], state[sums:-32], slots
+
+
+def without_sums(state):
+    """A state as of an earlier program."""
+    head, front, _sums, _slots = parts_of(state)
+    return head + front + hashlib.sha256(head + front).digest()
+
+
+def sums_of(state, volumes, area):
+    """The sums that a state has to have where these are the bytes of its volumes, and of its area; those of free slots as they are."""
+    _head, front, sums, slots = parts_of(state)
+    data = b"".join(volumes)
+    wanted = [sum_of(data[at:at + BLOCK]) for at in range(0, len(data), BLOCK)]
+    for slot in range(slots):
+        at, place = len(front) + BLOCK * slot, 16 * len(wanted)
+        is_free = front[BLOCK + 16 * slot:BLOCK + 16 * slot + 4] == bytes(4)
+        wanted.append(sums[place:place + 16] if is_free else sum_of(area[at:at + BLOCK]))
+    return b"".join(wanted)
+
+
 def length_of(data):
     return b"absent" if data is None else b"length %d" % len(data)
 
 
 class Image:
-    def __init__(self, number_of_set, data):
+    def __init__(self, number_of_set, data, tails):
         self.set = number_of_set
         self.data = data
         self.copied = set()  # the blocks that are in slots for it
+        self.tails = dict(tails)
 
 
 class Volume:
@@ -77,6 +124,29 @@ class Volume:
         self.data = data
         self.count = count
         self.images = []  # the oldest first
+        self.tails = {}  # what blocks that were the last end with, while they are not written
+
+    def blocks(self):
+        """Its blocks as they are."""
+        blocks = blocks_of(self.data, self.count)
+        return [block[:-8] + self.tails.get(b, block[-8:]) for b, block in enumerate(blocks)]
+
+    def grow(self, count):
+        """More blocks: the length of its file, and of each image's, is in the new last one."""
+        for of in [self, *self.images]:
+            of.tails[self.count - 1] = blocks_of(of.data, self.count)[-1][-8:]
+        for image in self.images:
+            if self.count - 1 in image.copied:
+                image.copied.add(count - 1)
+        self.count = count
+
+    def written(self, one, other):
+        """The blocks that were written between the cuts of two sets, or since one. All others are the same."""
+        first, last = sorted((one, other)) if other else (one, None)
+        blocks = set().union(*(i.copied for i in self.images if first <= i.set and (last is None or i.set < last)))
+        old, new = (blocks_of(at.data, self.count) for at in (self.image(one), self.image(other) if other else self))
+        assert all(old[b] == new[b] for b in range(self.count) if b not in blocks)
+        return blocks
 
     def image(self, number_of_set):
         return next((i for i in self.images if i.set == number_of_set), None)
@@ -144,7 +214,7 @@ class Plain:
             if task not in FORMS:
                 raise Ends(2, "usage: " + " | ".join(FORMS.values()) + "; --wait SECONDS may stand before F")
             if rest[:1] == ["--tries"]:
-                rest = rest[2:] if task in ("create", "update") and number("".join(rest[1:2]), 1) else []
+                rest = rest[2:] if task in ("create", "update", "add") and number("".join(rest[1:2]), 1) else []
             done = getattr(self, task)(rest, out)
             if done is False:
                 raise Ends(2, "usage: " + FORMS[task] + self.more(task, words))
@@ -174,7 +244,7 @@ class Plain:
         if folder in self.stores:
             return self.stores[folder]
         missing = "No such file or directory (os error 2)" if self.files.get(folder) is None else "Not a directory (os error 20)"
-        raise Ends(3, f"{folder}: no folder of images (images.state: {missing}); ./images create makes one")
+        raise Ends(3, f"{folder}: no folder of images (images.state: {missing}); ./images create makes one of a new name")
 
     def create(self, words, _out):
         if len(words) < 3 or number(words[1], 0) is None:
@@ -183,33 +253,44 @@ class Plain:
         if None in pairs:
             return False
         self.check_create(folder, slots, pairs)
-        volumes = []
-        for name, count, file in pairs:
-            data = self.read(file)
-            length = len(data or b"")
-            need = (length + 8 + BLOCK - 1) // BLOCK
-            if count is not None and length > BLOCK * count - 8:
-                raise Ends(3, f"{file}: length: {length} bytes, and {name} has room for {BLOCK * count - 8}")
-            volumes.append(Volume(name, data, need if count is None else count))
-        total = sum(v.count for v in volumes)
-        if total > 131072:
-            raise Ends(3, f"blocks: {total} in all, at most 131072")
+        volumes = [self.new_volume(*of) for of in pairs]
+        self.check_total(sum(v.count for v in volumes))
         self.stores[folder] = Store(slots, volumes)
         return True
+
+    def new_volume(self, name, count, file):
+        data = self.read(file)
+        length = len(data or b"")
+        if count is not None and length > BLOCK * count - 8:
+            raise Ends(3, f"{file}: length: {length} bytes, and {name} has room for {BLOCK * count - 8}")
+        return Volume(name, data, (length + 8 + BLOCK - 1) // BLOCK if count is None else count)
+
+    @staticmethod
+    def check_total(total):
+        if total > 131072:
+            raise Ends(3, f"blocks: {total} in all, at most 131072")
+
+    @staticmethod
+    def check_count(name, count):
+        if count is not None and not 1 <= count <= 65536:
+            raise Ends(3, f"{name}: blocks: {count}, and a volume has 1 to 65536")
+
+    @staticmethod
+    def check_slots(slots):
+        if slots > 65536:
+            raise Ends(3, f"SLOTS {slots}: at most 65536")
 
     def check_create(self, folder, slots, pairs):
         for place, (name, count, _file) in enumerate(pairs):
             self.check_name(name)
             if name in [earlier for earlier, _, _ in pairs[:place]]:
                 raise Ends(3, f"{folder}: volume {name}: given twice")
-            if count is not None and not 1 <= count <= 65536:
-                raise Ends(3, f"{name}: blocks: {count}, and a volume has 1 to 65536")
-        if slots > 65536:
-            raise Ends(3, f"SLOTS {slots}: at most 65536")
+            self.check_count(name, count)
+        self.check_slots(slots)
         if len(pairs) > 128:
             raise Ends(3, f"volumes: {len(pairs)}, at most 128")
         if folder in self.stores or folder in self.files:
-            raise Ends(3, f"{folder}: is there already; ./images update goes on with one")
+            raise Ends(3, f"{folder}: is there already; create takes a new name, and ./images update a folder of images")
 
     @staticmethod
     def check_name(name):
@@ -233,7 +314,7 @@ class Plain:
                 raise Ends(3, f"{folder}: images of {v.name}: 512, at most 512; ./images prune deletes old ones")
         store.last += 1
         for v in volumes:
-            v.images.append(Image(store.last, v.data))
+            v.images.append(Image(store.last, v.data, v.tails))
         out.append(b"set %d\n" % store.last)
         if any(set(words[1:]) <= line for line in store.together) or len(volumes) == 1:
             return True
@@ -251,7 +332,7 @@ class Plain:
             data = self.read(file)
             if len(data or b"") > BLOCK * v.count - 8:
                 raise Ends(3, f"{file}: length: {len(data)} bytes, and {v.name} has room for {BLOCK * v.count - 8}")
-            old, new = blocks_of(v.data, v.count), blocks_of(data, v.count)
+            old, new = v.blocks(), blocks_of(data, v.count)
             jobs.append((v, data, [b for b in range(v.count) if old[b] != new[b]]))
         counts = []
         for v, data, marked in jobs:
@@ -263,7 +344,7 @@ class Plain:
                     copied += 1
             counts.append(b"%s written %d copied %d\n" % (v.name.encode(), len(marked), copied))
         for v, data, _ in jobs:
-            v.data = data
+            v.data, v.tails = data, {}
         store.bring([v.name for v in volumes])
         out += counts
         return True
@@ -276,6 +357,29 @@ class Plain:
             out.append(b"volume %s blocks %d %s\n" % (v.name.encode(), v.count, length_of(v.data)))
             out += [b"image %d %s used %d\n" % (i.set, length_of(i.data), len(i.copied)) for i in v.images]
         out.append(b"slots %d of %d, last set %d\n" % (store.used(), store.slots, store.last))
+        return True
+
+    def diff(self, words, out):
+        if len(words) < 2 or number(words[1], 1) is None:
+            return False
+        sets, names = [int(words[1])], words[2:]
+        if names and number(names[0], 1) is not None:
+            sets, names = [*sets, int(names[0])], names[1:]
+        if len(names) > 1:
+            return False
+        folder, store = words[0], self.store(words[0])
+        for number_of_set in sets:
+            if names:
+                store.image(folder, number_of_set, store.named(folder, names[0]))
+            elif not any(v.image(number_of_set) for v in store.volumes):
+                raise Ends(3, f"{folder}: set {number_of_set}: there is no image of it; ./images sets shows all")
+        for v in store.volumes if not names else [store.named(folder, names[0])]:
+            has = [number_of_set for number_of_set in sets if v.image(number_of_set)]
+            if len(has) == len(sets):
+                blocks = v.written(sets[0], sets[1] if len(sets) == 2 else None)
+                out.append(f"volume {v.name} written {len(blocks)}{': ' if blocks else ''}{runs_of(blocks)}\n".encode())
+            elif has:
+                out.append(f"volume {v.name} only in set {has[0]}\n".encode())
         return True
 
     def shown(self, words):
@@ -333,8 +437,63 @@ class Plain:
         image = store.image(folder, number_of_set, v)
         v.images = v.images[:v.images.index(image) + 1]
         image.copied = set()
-        v.data = image.data
+        v.data, v.tails = image.data, dict(image.tails)
         store.bring([v.name])
+        return True
+
+    def grow(self, words, out):
+        if len(words) != 2:
+            return False
+        folder, (name, sign, word) = words[0], words[1].partition("=")
+        count = number(word if sign else name, 0)
+        if count is None:
+            return False
+        store = self.store(folder)
+        if not sign:
+            self.check_slots(count)
+            if count <= store.slots:
+                raise Ends(3, f"SLOTS {count}: there are {store.slots} already; slots only get more")
+            store.slots = count
+            out.append(b"slots %d\n" % count)
+            return True
+        v = store.named(folder, name)
+        self.check_count(name, count)
+        if count <= v.count:
+            raise Ends(3, f"{name}: blocks: {count}, and it has {v.count} already; a volume only grows")
+        self.check_total(sum(of.count for of in store.volumes) - v.count + count)
+        needed, free = sum(v.count - 1 in i.copied for i in v.images), store.slots - store.used()
+        if needed > free:
+            raise Ends(3, f"{folder}: slots: too few are free for the images of {name}; ./images grow {folder} SLOTS makes more")
+        v.grow(count)
+        out.append(b"volume %s blocks %d\n" % (name.encode(), count))
+        return True
+
+    def add(self, words, out):
+        if len(words) != 2 or pair(words[1]) is None:
+            return False
+        folder, (name, count, file) = words[0], pair(words[1])
+        store = self.store(folder)
+        self.check_name(name)
+        if any(v.name == name for v in store.volumes):
+            raise Ends(3, f"{folder}: volume {name}: is there already; ./images update brings it to a file")
+        self.read(file)
+        self.check_count(name, count)
+        v = self.new_volume(name, count, file)
+        self.check_total(sum(of.count for of in store.volumes) + v.count)
+        store.volumes.append(v)
+        store.bring([name])
+        out.append(b"volume %s blocks %d\n" % (name.encode(), v.count))
+        return True
+
+    def remove(self, words, out):
+        if len(words) != 2:
+            return False
+        folder, store = words[0], self.store(words[0])
+        v = store.named(folder, words[1])
+        if len(store.volumes) == 1:
+            raise Ends(3, f"{folder}: volume {v.name}: is the only one; a folder has one at least")
+        store.volumes.remove(v)
+        out.append(b"removed %s: %d\n" % (v.name.encode(), len(v.images)))
         return True
 
     def check(self, words, out):

@@ -42,7 +42,18 @@ def write_on(renames):
         time.sleep(draw.choice([0, 0.002, 0.02, 0.1]))
 
 
-def main(program, folder, count):
+def in_seconds(program, library, folder):
+    """Where times of files are whole seconds, a change of one that was just written is seen behind each read."""
+    ran([program, "create", "S", "0", "db=db"], cwd=folder, check=True)
+    for number in (2, 4):
+        write(os.path.join(folder, "db"), number, True)
+        preloaded = {"LD_PRELOAD": library, "WHOLE_SECONDS": "1", "CHANGE_AT": str(number), "CHANGE_FILE": "db", "CHANGE_SIZE": "-1"}
+        got = ran([program, "update", "--tries", "1", "S", "db=db"], cwd=folder, env={**os.environ, **preloaded})
+        if got.returncode != 12 or not TOLD.fullmatch(got.stderr):
+            sys.exit(f"in whole seconds, at {number}: {got}")
+
+
+def main(program, library, folder, count):
     for renames in (False, True):
         room, done = os.path.join(folder, f"renames {renames}"), 0
         os.mkdir(room)
@@ -66,7 +77,8 @@ def main(program, folder, count):
         if not done or not is_there:
             sys.exit("no update was done, or the writer has ended")
         print(f"{'renamed' if renames else 'in place'}: {done} of {count} updates were done, all of one moment")
-    return f"{2 * count} updates under a writer"
+    in_seconds(program, library, os.path.join(folder, "renames False"))
+    return f"{2 * count} updates under a writer, and 2 in whole seconds"
 
 
 if __name__ == "__main__":

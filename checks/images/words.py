@@ -4,21 +4,101 @@ import datetime
 import fcntl
 import json
 import os
+import random
 import re
 import resource
+import shutil
 import sys
 import threading
 import time
 
 import plain
-from common import limited, ran, read, write
+from common import files_below, limited, ran, read, write
 
 B = 16384
 
 
 def has(name, data, mode):
-    if read(name) != data or os.stat(name).st_mode & 0o7777 != mode or os.path.exists(f"{name}.restored"):
+    if read(name) != data or os.stat(name).st_mode & 0o7777 != mode or os.path.exists(f"{name}~restored"):
         sys.exit(f"{name}: {len(read(name))} bytes of mode {os.stat(name).st_mode:o}, or a file beside it was left")
+
+
+def forecasts(program, seed):
+    """What `update --dry-run` says is what the update does, and the deletion of a set gives its exclusive slots back."""
+    def listed():
+        return json.loads(ran([program, "list", "--json", "H"]).stdout)
+
+    draw, tried = random.Random(seed), 0
+    files = {name: bytearray(B * count) for name, count in (("one", 6), ("two", 3))}
+    for name, data in files.items():
+        write(name, data)
+    ran([program, "create", "H", str(draw.randrange(4, 24)), "one=one", "two=two"])
+    for _ in range(10):
+        for data in files.values():
+            data[draw.randrange(len(data))] ^= draw.randrange(2)
+        for name, data in files.items():
+            write(name, data)
+        pairs = draw.choice([["one=one"], ["two=two"], ["one=one", "two=two"]])
+        before = listed()
+        said = ran([program, "update", "--dry-run", "H", *pairs]).stdout.decode()
+        if listed() != before:
+            sys.exit("--dry-run changed something")
+        done = ran([program, "update", "H", *pairs]).stdout.decode()
+        went = sorted({of["set"] for of in before["sets"]} - {of["set"] for of in listed()["sets"]})
+        lines = [line for line in said.splitlines() if "would go" in line]
+        if lines != [f"set {number} would go" for number in went]:
+            sys.exit(f"--dry-run: {said}, and then {done}")
+        if not went and re.sub("would write ([0-9]+) copy", r"written \1 copied", said).splitlines()[:-1] != done.splitlines():
+            sys.exit(f"--dry-run: {said}, and then {done}")
+        ran([program, "cut", "H", *draw.choice([["one"], ["two"], ["one", "two"]])])
+        tried += 3
+    for of in draw.sample(listed()["sets"], len(listed()["sets"])):
+        before = listed()
+        own = next(one["exclusive"] for one in before["sets"] if one["set"] == of["set"])
+        ran([program, "delete", "H", str(of["set"])])
+        if before["used"] - listed()["used"] != own:
+            sys.exit(f"set {of['set']} gave back {before['used'] - listed()['used']}, not {own}")
+        tried += 1
+    shutil.rmtree("H")
+    return tried
+
+
+def growth(program):
+    """A folder without sums grows and gets them. A block with another sum is not moved, nor is its length kept: nothing is changed then."""
+    tried, first = 0, bytes([1]) * B
+
+    def call(status, told, *words):
+        nonlocal tried
+        tried += 1
+        got = ran([program, *words])
+        if got.returncode != status or told not in got.stderr + got.stdout:
+            sys.exit(f"{words}: {got.returncode} {got.stdout} {got.stderr}, wanted {status} {told}")
+
+    def refused(name, at, told, *words):
+        whole = read(f"H/{name}")
+        write(f"H/{name}", whole[:at] + bytes([whole[at] ^ 1]) + whole[at + 1:])
+        damaged = files_below("H")
+        call(9, told, *words)
+        if files_below("H") != damaged:
+            sys.exit(f"{words}: something was changed")
+        write(f"H/{name}", whole)
+
+    write("one", first)
+    call(0, b"", "create", "H", "1", "one=one")
+    call(0, b"set 1", "cut", "H", "one")
+    write("one", bytes([2]) * B)
+    call(0, b"copied 1", "update", "H", "one=one")
+    write("H/images.state", plain.without_sums(read("H/images.state")))
+    call(0, b"slots 1100", "grow", "H", "1100")
+    call(0, b"whole: 1 volumes, 1 images, 1 of 1100 slots", "check", "H")
+    refused("images.area", 3 * B + 5, b"slot 0: its sum is another", "grow", "H", "3000")
+    refused("one.vol", 2 * B - 1, b"block 1: its sum is another", "grow", "H", "one=9")
+    call(0, b"slots 3000", "grow", "H", "3000")
+    call(0, b"volume one blocks 9", "grow", "H", "one=9")
+    call(0, b"1 of 3000 slots", "check", "H")
+    call(0, first, "show", "H", "1", "one")
+    shutil.rmtree("H")
+    return tried
 
 
 def main(program, room):
@@ -42,7 +122,7 @@ def main(program, room):
     call(0, "db written 3 copied 3\n", "update", "F", "db=db")
     call(0, "set 2\n", "cut", "--note", "nightly, before the upgrade", "F", "db")
     sets = ran([program, "sets", "F"]).stdout.decode()
-    told = re.fullmatch(r"set 1 (\S+)Z images 2 used 3\nset 2 (\S+)Z images 1 used 0: nightly, before the upgrade\n", sets)
+    told = re.fullmatch(r"set 1 (\S+)Z images 2 used 3 exclusive 3 shared 0\nset 2 (\S+)Z images 1 used 0 exclusive 0 shared 0: nightly, before the upgrade\n", sets)
     moments = [datetime.datetime.fromisoformat(moment + "+00:00").timestamp() for moment in told.groups()] if told else []
     if not told or not time.time() - 60 < moments[0] <= moments[1] <= time.time():
         sys.exit(f"sets: {sets}")
@@ -51,12 +131,20 @@ def main(program, room):
         "volumes": [{"name": "db", "blocks": 4, "length": 3 * B, "images": [
             {"set": 1, "length": 3 * B, "used": 3}, {"set": 2, "length": 3 * B, "used": 0}]},
             {"name": "log", "blocks": 1, "length": None, "images": [{"set": 1, "length": None, "used": 0}]}],
-        "sets": [{"set": 1, "note": "", "images": 2, "used": 3}, {"set": 2, "note": "nightly, before the upgrade", "images": 1, "used": 0}],
+        "sets": [{"set": 1, "note": "", "images": 2, "used": 3, "exclusive": 3, "shared": 0},
+            {"set": 2, "note": "nightly, before the upgrade", "images": 1, "used": 0, "exclusive": 0, "shared": 0}],
         "used": 3, "slots": 6, "last": 2}:
         sys.exit(f"list --json: {listed}")
     os.rename("F/images.dates", "dates")
-    call(0, "set 1 - images 2 used 3\nset 2 - images 1 used 0\n", "sets", "F")
+    call(0, "set 1 - images 2 used 3 exclusive 3 shared 0\nset 2 - images 1 used 0 exclusive 0 shared 0\n", "sets", "F")
     os.rename("dates", "F/images.dates")
+    listed = json.loads(ran([program, "diff", "--json", "F", "1"]).stdout)
+    if listed != {"set": 1, "other": None, "volumes": [{"name": "db", "written": 3, "runs": [[0, 2]]}, {"name": "log", "written": 0, "runs": []}]}:
+        sys.exit(f"diff --json: {listed}")
+    call(0, "volume db written 3: 0-2\nvolume log only in set 1\n", "diff", "F", "2", "1")
+    call(0, "volume db written 0\n", "diff", "F", "2")
+    call(3, "set 2: there is no image of it on log", "diff", "F", "1", "2", "log")
+    call(3, "set 3: there is no image of it", "diff", "F", "1", "3")
     for note in ("two\nlines", "\x7f", "\u00e9", "n" * 101):
         call(2, "usage: cut [--note TEXT] F NAME ..", "cut", "--note", note, "F", "db")
 
@@ -70,7 +158,7 @@ def main(program, room):
     call(0, "", "restore", "--over", "F", "2", "db", "out")
     has("out", second, 0o640)
     small_files = limited(resource.RLIMIT_FSIZE, 2 * B)
-    call(5, "out.restored: could not be written", "restore", "--over", "F", "1", "db", "out", preexec_fn=small_files)
+    call(5, "out~restored: could not be written: File too large", "restore", "--over", "F", "1", "db", "out", preexec_fn=small_files)
     has("out", second, 0o640)
     call(13, "set 1 of log: its file was not there", "restore", "--over", "F", "1", "log", "out")
     call(3, "there is no image of it", "restore", "--over", "F", "9", "db", "out")
@@ -79,11 +167,11 @@ def main(program, room):
     has("now", second, 0o600)
     os.symlink("out", "link")
     call(3, "link: is no file", "restore", "--over", "F", "1", "db", "link")
-    call(5, "nowhere/out.restored: could not be made: No such file", "restore", "F", "1", "db", "nowhere/out")
-    write("left.restored", b"of somebody else")
-    call(3, "left.restored: is left of a restore that did not end", "restore", "F", "1", "db", "left")
-    if read("left.restored") != b"of somebody else" or os.path.exists("left"):
-        sys.exit("left.restored was touched")
+    call(5, "nowhere/out~restored: could not be made: No such file", "restore", "F", "1", "db", "nowhere/out")
+    write("left~restored", b"of somebody else")
+    call(3, "left~restored: is left of a restore that did not end", "restore", "F", "1", "db", "left")
+    if read("left~restored") != b"of somebody else" or os.path.exists("left"):
+        sys.exit("left~restored was touched")
 
     os.mkdir("all")
     call(0, "", "restore", "F", "2", "all")
@@ -92,29 +180,53 @@ def main(program, room):
     os.mkdir("all/log")
     call(3, "all/log: is no file", "restore", "--over", "F", "1", "all")
     os.rmdir("all/log")
-    call(5, "all/db.restored: could not be written", "restore", "--over", "F", "1", "all", preexec_fn=small_files)
+    call(5, "all/db~restored: could not be written: File too large", "restore", "--over", "F", "1", "all", preexec_fn=small_files)
     has("all/db", second, 0o600)
     got = ran([program, "restore", "--over", "F", "1", "all/"])
     if got.returncode or got.stderr != b"images: F: set 1 of log: its file was not there\n" or os.listdir("all") != ["db"]:
         sys.exit(f"restore of a set: {got.returncode} {got.stderr} {os.listdir('all')}")
     has("all/db", first, 0o600)
+    write("all/log", b"newer")
+    write("all/db", b"newer")
+    call(3, "all/log: is there, and was not in set 1; remove it first", "restore", "--over", "F", "1", "all")
+    if files_below("all") != {"all/db": b"newer", "all/log": b"newer"}:
+        sys.exit("a set that was refused left something")
+    os.symlink("F", "G")
+    before = files_below("F")
+    for target in ("F/db.vol", "F/images.area", "F/images.state", "F/new", "G/images.dates"):
+        call(3, f"{target}: lies in F", "restore", "--over", "F", "1", "db", target)
+    call(3, "G/db: lies in F", "restore", "F", "1", "G/")
+    if files_below("F") != before:
+        sys.exit("a restore into F changed it")
     call(3, "set 9: there is no image of it", "restore", "F", "9", "all")
-    call(5, "nowhere/db.restored: could not be made: No such file", "restore", "F", "2", "nowhere")
+    call(0, "", "create", "I", "0", "a=db", "a.restored=all/db")
+    call(0, "set 1\n", "cut", "I", "a", "a.restored")
+    os.mkdir("both")
+    call(0, "", "restore", "I", "1", "both")
+    if files_below("both") != {"both/a": second, "both/a.restored": b"newer"}:
+        sys.exit(f"a set with a name that ends in .restored: {os.listdir('both')}")
+    call(5, "nowhere/db~restored: could not be made: No such file", "restore", "F", "2", "nowhere")
 
     write("db", third)
+    call(0, "db would write 3 copy 3\nslots 3 needed, 3 free\n", "update", "--dry-run", "F", "db=db")
+    call(3, "volume db: given twice", "update", "--dry-run", "F", "db=db", "db=out")
     call(0, "db written 3 copied 3\n", "update", "--keep", "2", "F", "db=db")
     call(0, "set 3\n", "cut", "F", "db")
     write("db", first)
+    area = read("F/images.area")
+    call(0, "db would write 3 copy 3\nslots 3 needed, 0 free\nset 1 would go\nrefused, as 2 of 3 sets would be left\n", "update", "--dry-run", "--keep", "3", "F", "db=db")
     call(3, "sets: 2 would be left, and 3 are wanted at least", "update", "--keep", "3", "F", "db=db")
+    if read("F/images.area") != area or os.path.exists("F/images.open"):
+        sys.exit("an update that --keep refused wrote something")
     call(0, "", "restore", "--over", "F", "1", "db", "out")
     has("out", first, 0o640)
     call(0, "deleted set 1: 2\n", "prune", "--keep", "2", "F")
     call(0, "", "prune", "--keep", "2", "F")
     call(3, "there is no image of it", "show", "F", "1", "db")
     call(0, "deleted set 2: 1\n", "prune", "--keep", "1", "F")
-    if len(read("F/images.dates").splitlines()) != 3:
+    if len(read("F/images.dates").splitlines()) != 4:
         sys.exit("a set that went lost its line before the next cut")
-    for words in (["prune", "F"], ["prune", "--keep", "0", "F"], ["list", "--over", "F"], ["sets", "--json", "F"], ["cut", "--keep", "1", "F", "db"], ["restore", "F", "db"],
+    for words in (["prune", "F"], ["prune", "--keep", "0", "F"], ["list", "--over", "F"], ["sets", "--json", "F"], ["cut", "--keep", "1", "F", "db"], ["restore", "F", "db"], ["diff", "F", "db"], ["diff", "F", "1", "2", "db", "log"],
                   ["create", "--wait", "1", "G", "1", "db=db"], ["list", "--wait", "1", "--wait", "1", "F"]):
         call(2, "usage: ", *words)
 
@@ -127,13 +239,14 @@ def main(program, room):
         tried += 3
     call(2, "usage: ", "nothing", "--help")
 
+    tried += sum(forecasts(program, seed) for seed in range(3)) + growth(program)
     held = os.open("F", os.O_RDONLY)
     fcntl.flock(held, fcntl.LOCK_EX)
-    call(10, "in use by another process", "list", "F")
-    call(10, "in use by another process", "list", "--wait", "1", "F")
+    call(10, "in use by another process", "check", "F")
+    call(10, "in use by another process", "check", "--wait", "1", "F")
     threading.Timer(0.5, lambda: fcntl.flock(held, fcntl.LOCK_UN)).start()
     call(0, "set 4\n", "cut", "--wait", "30", "F", "db")
-    if [line.split()[0] for line in read("F/images.dates").splitlines()] != [b"3", b"4"]:
+    if [line.split()[0] for line in read("F/images.dates").splitlines()] != [b"sha256", b"3", b"4"]:
         sys.exit("a set that went kept its line")
     os.chdir("/")
-    return f"{tried} calls of restore, sets, prune, --keep, --wait and --help"
+    return f"{tried} calls of restore, sets, diff, prune, --keep, --wait and --help"

@@ -1,6 +1,5 @@
-use image_folder::{Files, Job as Passes, Opened, Program, Status, capture, ended, take_spool};
-use volume_device::FileDevice;
-use write_history::Evicted;
+use image_folder::{FileInput, Files, Job as Passes, Opened, Program, Status, capture, ended};
+use volume_device::{FileDevice, FileFault};
 
 /// How many blocks are read at a time in a freeze: 16 MiB.
 const PART: u32 = 1024;
@@ -14,6 +13,11 @@ pub struct Capture<'a> {
     spool: FileDevice,
     /// The next block.
     at: u32,
+}
+
+/// The file is read as it was captured.
+fn read_captured(input: &mut FileInput<'_>, spool: FileDevice) {
+    input.spool = Some(spool);
 }
 
 impl<'a> Capture<'a> {
@@ -39,9 +43,15 @@ impl<'a> Capture<'a> {
         Ok(true)
     }
 
-    /// The volume takes the spool.
-    fn take_spool(&mut self, store: &mut Files, gone: &mut Vec<Evicted>) -> Result<(), Status> {
-        take_spool(&mut self.passes, store, &mut self.spool, gone)
+    /// The passes over what was captured.
+    fn into_passes(self) -> Passes<'a> {
+        let Capture {
+            mut passes,
+            spool,
+            ..
+        } = self;
+        read_captured(&mut passes.input, spool);
+        passes
     }
 
     /// That the file has not changed.
@@ -81,26 +91,37 @@ pub fn check_all(program: &Program, captures: &mut Vec<Capture<'_>>) -> Result<(
     Ok((all, differ))
 }
 
-/// The old bytes of what differs are copied, and that is committed.
-pub fn copy_all(
-    opened: &mut Opened,
-    captures: &mut Vec<Capture<'_>>,
-    gone: &mut Vec<Evicted>,
-) -> Result<(), Status> {
-    for capture in captures.iter_mut() {
-        opened.copy_ahead(&mut capture.passes, gone)?;
+/// Says which spool failed, if one did: then nothing of the folder did, and the call ends as behind a file that could not be read.
+pub fn fault_of(program: &Program, captures: Vec<Capture<'_>>) -> Status {
+    for capture in captures {
+        let Capture { spool, .. } = capture;
+        if let Some(FileFault { path, call, error }) = spool.into_fault() {
+            return ended!(*program, Unread; "{path}: {call}: {error}");
+        }
     }
-    opened.commit()
+    Status::DeviceFault
 }
 
-/// The volumes take their spools.
-pub fn take_all(
-    store: &mut Files,
-    captures: &mut Vec<Capture<'_>>,
-    gone: &mut Vec<Evicted>,
-) -> Result<(), Status> {
-    for capture in captures.iter_mut() {
-        capture.take_spool(store, gone)?;
+/// Volumes are brought to what passes have. Sets that went for it in memory, and may not, are never committed: it ends as if the folder failed.
+pub fn overwrite(opened: &mut Opened, jobs: &mut Vec<Passes<'_>>) -> Result<(), Status> {
+    match opened.overwrite(None, jobs) {
+        Err(Status::Refused) => Err(Status::FolderFault),
+        done => done,
+    }
+}
+
+/// The volumes take what was captured, and keep it.
+pub fn take_all(opened: &mut Opened, captures: Vec<Capture<'_>>) -> Result<(), Status> {
+    let mut jobs = Vec::new(opened.folder.program.alloc());
+    for capture in captures {
+        jobs.push(capture.into_passes())?;
+    }
+    opened.check_room(&jobs)?;
+    overwrite(opened, &mut jobs)?;
+    for job in &jobs {
+        if job.volume >= opened.store.volumes() || opened.store.flush(job.volume).is_err() {
+            return Err(Status::DeviceFault);
+        }
     }
     Ok(())
 }

@@ -1,15 +1,15 @@
 ghost use Rattle.std.specs.Prelude.{◌≢◌, ◌<◌, length, All, OnOk};
 ghost use Rattle.std.specs.List.{AllPairs};
 
-use crate::capture::{Capture, check_all, copy_all, read_part, take_all};
+use crate::capture::{Capture, check_all, fault_of, overwrite, read_part, take_all};
 use crate::chosen::Chosen;
 use image_folder::{
-    FileInput, Job as Passes, Opened, Program, Status, Way, compare, ended, is_own, open,
-    overwrite, say,
+    FileInput, Job as Passes, Opened, Program, Status, Way, compare, ended, goes_up_to, is_own,
+    open, say, sets_of, want_of,
 };
 use live_backup::JobVolume;
+use std::mem;
 use std::time::Instant;
-use write_history::Evicted;
 
 /// The longest time that is told, in seconds.
 const MOST_SECONDS: u64 = 4_000_000;
@@ -25,7 +25,6 @@ pub struct FolderWork<'a> {
     chosen: Vec<u32>,
     names: Vec<&'a str>,
     captures: Vec<Capture<'a>>,
-    gone: Vec<Evicted>,
     /// When the first block was read while all stood still.
     since: Option<Instant>,
 }
@@ -66,6 +65,15 @@ fn add_places(opened: &Opened, names: &[&str], places: &mut Vec<u32>) -> Result<
     Ok(())
 }
 
+/// Whether a set would go for copies of the blocks of a volume that differ.
+fn takes_sets(opened: &Opened, passes: &Passes<'_>) -> Result<bool, Status> {
+    let alloc = opened.folder.program.alloc();
+    let mut wants = Vec::new(alloc);
+    wants.push(want_of(&opened.store, alloc, passes)?)?;
+    let sets = sets_of(&opened.store, alloc)?;
+    Ok(goes_up_to(&opened.store, &sets, &wants) > 0)
+}
+
 impl<'a> FolderWork<'a> {
     /// That on an open folder, of which nothing was done.
     fn new(opened: Opened, chosen: Chosen<'a>) -> FolderWork<'a> {
@@ -83,7 +91,6 @@ impl<'a> FolderWork<'a> {
             chosen: places,
             names,
             captures: Vec::new(alloc),
-            gone: Vec::new(alloc),
             since: None,
         }
     }
@@ -132,27 +139,54 @@ impl<'a> FolderWork<'a> {
         self.opened.mark(text.as_str())
     }
 
-    /// Brings a volume near its file.
+    /// Says that the file of passes was not there, if it was not.
+    fn say_none(&self, volume: u32, input: &FileInput<'_>) -> Result<(), Status> {
+        let path = match self.volumes.get(volume as usize) {
+            Some(of) => String::from_str(self.program.alloc(), of.file)?,
+            None => return Ok(()),
+        };
+        if input.length() > 0 || input.is_at(path) {
+            return Ok(());
+        }
+        let name = input.name;
+        say(
+            &self.program,
+            format_args!("near {name}: its file was not there\n"),
+        )
+    }
+
+    /// Brings a volume near its file, if no set goes for it.
     fn bring_one(&mut self, volume: u32) -> Result<(), Status> {
         let mut passes = self.passes(volume)?;
+        self.say_none(volume, &passes.input)?;
         let then = Instant::now(&self.program.rt).ok();
         compare(&mut passes, &mut self.opened.store)?;
-        if passes.written > 0 {
-            self.opened.copy_ahead(&mut passes, &mut self.gone)?;
-            self.opened.commit()?;
-            self.opened.is_torn = true;
-            overwrite(&mut passes, &mut self.opened.store, &mut self.gone)?;
+        let (name, blocks, all) = (passes.input.name, passes.written, passes.input.blocks);
+        let waits = takes_sets(&self.opened, &passes)?;
+        let mut jobs = Vec::new(self.program.alloc());
+        jobs.push(passes)?;
+        if waits {
+            self.opened.check_room(&jobs)?;
+            return say(
+                &self.program,
+                format_args!(
+                    "near {name}: {blocks} of {all} blocks wait, as a set would go for them\n"
+                ),
+            );
         }
-        let (name, blocks) = (passes.input.name, passes.written);
-        let (all, ms) = (passes.input.blocks, since(&self.program, then));
+        if blocks > 0 {
+            overwrite(&mut self.opened, &mut jobs)?;
+        }
+        let ms = since(&self.program, then);
         say(
             &self.program,
             format_args!("near {name}: {blocks} of {all} blocks written, in {ms} ms\n"),
         )
     }
 
-    /// Brings all volumes of the set near their files. A file that was cut off meanwhile is read once its writer stands still.
+    /// Brings all volumes of the set near their files, if the set may be dated. A file that was cut off meanwhile is read once its writer stands still.
     pub fn bring_all(&mut self) -> Result<(), Status> {
+        self.opened.folder.dates()?;
         self.mark()?;
         for name in &self.names {
             self.opened.folder.note_together(&[*name])?;
@@ -223,9 +257,8 @@ impl<'a> FolderWork<'a> {
     /// The volumes take their spools, and the set is cut and committed.
     pub fn keep_all(&mut self) -> Result<u32, Status> {
         self.mark()?;
-        copy_all(&mut self.opened, &mut self.captures, &mut self.gone)?;
-        self.opened.is_torn = true;
-        take_all(&mut self.opened.store, &mut self.captures, &mut self.gone)?;
+        let captures = mem::replace(&mut self.captures, Vec::new(self.program.alloc()));
+        take_all(&mut self.opened, captures)?;
         let set = self.cut()?;
         self.opened.note_date(set, "")?;
         self.opened.commit()?;
@@ -235,11 +268,20 @@ impl<'a> FolderWork<'a> {
 
     /// Ends the call on the folder: what is kept lasts, and the marker goes. If the folder failed what is committed counts.
     pub fn end(self, failed: Option<Status>) -> Result<(), Status> {
+        let FolderWork {
+            program,
+            mut opened,
+            captures,
+            ..
+        } = self;
+        let failed = match failed {
+            Some(Status::DeviceFault) => Some(fault_of(&program, captures)),
+            failed => failed,
+        };
         let done = match failed {
-            None | Some(Status::InputChanged | Status::Unread) => Ok(()),
+            None | Some(Status::InputChanged | Status::Unread | Status::Refused) => Ok(()),
             Some(status) => Err(status),
         };
-        let FolderWork { mut opened, .. } = self;
         let done = opened.or_unmark(done);
         opened.end(done)
     }

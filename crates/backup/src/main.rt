@@ -11,13 +11,15 @@ mod chosen;
 mod copier;
 mod folder_work;
 mod record;
+mod refused_job;
 mod shown;
 
 use chosen::Chosen;
 use copier::FolderCopier;
 use folder_work::{FolderWork, since};
 use image_folder::{Program, ProgramName, Status, ended};
-use live_backup::{Backup, Happened, Job, JobFault, Next, Setting, SettingFault};
+use live_backup::{Backup, Happened, Job, Next, Setting};
+use refused_job::{refused_setting, refused_text};
 use shown::Shown;
 use std::io::{BufRead, BufReader};
 use std::process::ExitCode;
@@ -105,68 +107,6 @@ fn talk(
     Ok(())
 }
 
-/// The job of a text.
-fn job_of<'a>(program: &Program, path: &str, text: &'a str) -> Result<Job<'a>, Status> {
-    match Job::read(program.alloc(), text) {
-        Ok(job) => Ok(job),
-        Err(JobFault::OutOfMemory) => Err(Status::OutOfMemory),
-        Err(JobFault::Line { line, reason }) => {
-            Err(ended!(*program, Refused; "{path}: line {line}: {}", reason.said()))
-        }
-    }
-}
-
-/// The name of a writer of a job, by its number.
-fn writer_name<'a>(job: &Job<'a>, writer: u32) -> &'a str {
-    match job.writers.get(writer as usize) {
-        Some(writer) => writer.name,
-        None => "",
-    }
-}
-
-/// The name of a volume of a job, by its number.
-fn volume_name<'a>(job: &Job<'a>, volume: u32) -> &'a str {
-    match job.volumes.get(volume as usize) {
-        Some(volume) => volume.name,
-        None => "",
-    }
-}
-
-/// Refuses a job for what it says of a volume or a writer of this name.
-fn refused(program: &Program, path: &str, name: &str, what: &str) -> Status {
-    ended!(*program, Refused; "{path}: {name}: {what}")
-}
-
-/// The setting of a job.
-fn setting_of(program: &Program, path: &str, job: &Job<'_>) -> Result<Setting, Status> {
-    match Setting::of(program.alloc(), job) {
-        Ok(setting) => Ok(setting),
-        Err(SettingFault::OutOfMemory) => Err(Status::OutOfMemory),
-        Err(SettingFault::Volume { volume }) => {
-            let name = volume_name(job, volume);
-            Err(refused(program, path, name, "its name, or too many volumes"))
-        }
-        Err(SettingFault::Writer { writer }) => {
-            let name = writer_name(job, writer);
-            Err(refused(
-                program,
-                path,
-                name,
-                "its name, its document, or too many writers",
-            ))
-        }
-        Err(SettingFault::Component { writer }) => {
-            let name = writer_name(job, writer);
-            Err(refused(
-                program,
-                path,
-                name,
-                "it has no such component that may be taken",
-            ))
-        }
-    }
-}
-
 /// Makes a backup to its end, and writes its record: how the first went, and the second.
 fn make<R: Threads + Sync>(
     rt: &R,
@@ -204,9 +144,7 @@ fn back_up_by<R: Threads + Sync>(
     let is_kept = backup.ledger().is_kept();
     let ended = backup.into_copier().end();
     done?;
-    if is_kept {
-        ended?;
-    }
+    ended?;
     recorded?;
     Ok(is_kept)
 }
@@ -220,9 +158,16 @@ fn back_up<R: Threads + Sync>(
     text: &str,
     record: Option<&str>,
 ) -> Result<bool, Status> {
-    let job = job_of(program, path, text)?;
-    let setting = setting_of(program, path, &job)?;
-    let chosen = Chosen::of(program.alloc(), &job.volumes, &setting.members.volumes)?;
+    let alloc = program.alloc();
+    let job = match Job::read(alloc, text) {
+        Ok(job) => job,
+        Err(fault) => return Err(refused_text(program, path, text, fault)),
+    };
+    let setting = match Setting::of(alloc, &job) {
+        Ok(setting) => setting,
+        Err(fault) => return Err(refused_setting(program, path, &job, fault)),
+    };
+    let chosen = Chosen::of(alloc, &job.volumes, &setting.members.volumes)?;
     let work = FolderWork::open(program, folder, job.least.unwrap_or(0), chosen)?;
     back_up_by(rt, program, &job, setting, work, record)
 }

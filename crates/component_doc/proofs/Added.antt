@@ -1,8 +1,9 @@
 -- A component that is named is a selectable one, and goes to its place.
-use Rattle.std.proofs.Common.{◌≡◌, ℕ, suc, ◌+◌, List, [], ◌∷◌, Bool, true, false, ◌&&◌, if◌then◌else◌, Option, Some, slice_get, arith, sym, ap, ◌∙◌}
+use Rattle.std.proofs.Common.{◌≡◌, ℕ, suc, ◌+◌, List, [], ◌∷◌, Bool, true, false, ◌&&◌, if◌then◌else◌, Option, Some, slice_get, arith, ◌∙◌}
 use Rattle.std.proofs.lemmas.Option.{none-some, same_Some}
 use Rattle.std.specs.List.{list_all}
 use Rattle.std.specs.Str.{bytes_eq}
+use Rattle.std.proofs.lemmas.Grind.{common_steps}
 use Rattle.writer_meta.specs.Metadata.{Part, Meta, full_name}
 use Rattle.writer_meta.proofs.Laws.{and_left, and_right}
 use Rattle.component_doc.specs.declared.found.Found.{Found}
@@ -15,9 +16,7 @@ IsFoundAt ps i f = (k : ℕ) × (f.component ≡ i + k) × (is_selectable (slice
 
 found-here : (b : Bool) (p : Part) (ps : List Part) (i : ℕ) (f : Found) (rest : Option Found) → (rest ≡ Some f → IsFoundAt ps (i + 1) f)
     → (if b then Some (record { component = i; selectable = p.selectable }) else rest) ≡ Some f → IsFoundAt (p ∷ ps) i f
-found-here true p ps i f rest later e =
-    let same : record { component = i; selectable = p.selectable } ≡ f = same_Some _ f e in
-    (0, sym (ap (λ (g : Found). g.component) same) ∙ omega arith, ap (λ (g : Found). g.selectable) same)
+found-here true p ps i f rest later e = grind (arith, common_steps, same_Some)
 found-here false p ps i f rest later e = let found = later e in (suc found.0, found.1 ∙ omega arith, found.2)
 
 found-at : (name : List ℕ) (i : ℕ) (ps : List Part) (f : Found) → found_from name i ps ≡ Some f → IsFoundAt ps i f

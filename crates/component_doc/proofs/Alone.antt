@@ -3,6 +3,7 @@ use Rattle.std.proofs.Common.{◌≡◌, ◌∙◌, ℕ, ◌<◌, ◌^◌, List,
 use Rattle.std.proofs.lemmas.Option.{none-some, same_Some}
 use Rattle.std.specs.Str.{is_utf8}
 use Rattle.std.proofs.Common.{arith}
+use Rattle.std.proofs.lemmas.Grind.{common_steps}
 use Rattle.serde_json.specs.Data.{Data}
 use Rattle.serde_json.specs.Read.{read}
 use Rattle.vss_names.specs.declared.context.Context.{Context}
@@ -46,14 +47,9 @@ same-held ms h k one other same = ap (λ n. held n k.selected) (other.writers �
 
 pub document-alone : (ms : List (Option Meta)) (text : List ℕ) (d : Data) (c : Context) (h : Held) → AreAllowed ms → length ms < 2 ^ 32 → value_of_text text ≡ Some d → IsDocument ms text c h
     → IsDocumentOf ms text c h
-document-alone ms text d c h allowed few value is = record {
-  json = (d, value);
-  document = is;
-  alone = λ e k other. (
-    same_Some e c (sym (context-of ms text d e k few value other) ∙ context-of ms text d c h few value is),
-    same-held ms h k is.over other.over (same_Some k.selected h.selected (sym (selected-of ms text d e k allowed few value other) ∙ selected-of ms text d c h allowed few value is)),
-  );
-}
+document-alone ms text d c h allowed few value is =
+    let fact = selected-of ms text d c h allowed few value is in
+    grind (arith, common_steps, context-of ms text d, context-of ms text d c h few value is, same-held ms h, selected-of ms text d)
 
 -- ## refusals
 

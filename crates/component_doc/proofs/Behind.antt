@@ -6,6 +6,7 @@ use Rattle.std.proofs.lemmas.List.{append-nil, append_assoc, append_cancel_left}
 use Rattle.std.proofs.lemmas.Slice.Eq.{bytes_eq-Decides, starts_is}
 use Rattle.std.specs.List.{starts_with}
 use Rattle.std.specs.Str.{bytes_eq}
+use Rattle.std.proofs.lemmas.Grind.{common_steps}
 use Rattle.writer_meta.specs.Metadata.{joined, backslash}
 use Rattle.component_doc.specs.Behind.{IsBehind}
 
@@ -34,8 +35,7 @@ not_below path name none =
     rw (other, not_begun path (name ++ backslash ∷ []) (λ more e. none (backslash ∷ more) (e ∙ append_assoc name (backslash ∷ []) more))) refl
 
 pub below_all : (path name rest : List ℕ) → path ≡ name ++ rest → (length rest == 0) ≡ true → is_below path name ≡ true
-below_all path name [] is none = rw ((bytes_eq-Decides path name).1 (is ∙ append-nil name)) refl
-below_all path name (b ∷ rest) is none = absurd (let same = (Decides-eqb (length (b ∷ rest)) 0).0 none in omega (arith, same))
+below_all path name rest is none = grind (arith, common_steps, bytes_eq-Decides, append-nil)
 
 pub below_at : (path name rest : List ℕ) → path ≡ name ++ rest → (length rest == 0) ≡ false → is_below path name ≡ nat_eq (get_or rest 0 0) backslash
 below_at path name [] is some = absurd (true≢false some)

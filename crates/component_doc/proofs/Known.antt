@@ -1,13 +1,13 @@
 -- The metadata of one writer, by its number.
-use Rattle.std.proofs.Common.{◌≡◌, ◌∙◌, ℕ, zero, suc, ◌+◌, ◌<◌, ◌≤◌, ◌==◌, ◌↔◌, append_assoc, append-nil, is_some, if◌then◌else◌, List, [], ◌∷◌, ◌++◌, length}
-use Rattle.std.proofs.Common.{drop, map, nat_le, Bool, true, false, ◌&&◌, Option, None, Some, option_map, slice_get, arith, refl, sym, ap, subst}
+use Rattle.std.proofs.Common.{◌≡◌, ◌∙◌, ℕ, zero, suc, ◌+◌, ◌<◌, ◌≤◌, ◌==◌, ◌↔◌, append-nil, is_some, if◌then◌else◌, List, [], ◌∷◌, ◌++◌, length}
+use Rattle.std.proofs.Common.{drop, map, Bool, true, false, ◌&&◌, Option, None, Some, option_map, slice_get, arith, refl, sym, ap, subst}
 use Rattle.std.specs.Prelude.{Result, IfOk}
-use Rattle.std.proofs.lemmas.Bool.Decides.{nat_tests}
 use Rattle.std.proofs.lemmas.Bool.{eqb-true, false≢true}
 use Rattle.std.proofs.lemmas.List.{drop_all, length-map}
 use Rattle.std.proofs.lemmas.Option.{none-some, same_Some}
+use Rattle.std.proofs.lemmas.Grind.{common_steps}
 use Rattle.writer_meta.specs.declared.metadata.Metadata.{Metadata}
-use Rattle.writer_meta.specs.Metadata.{Meta, part_of, meta_of}
+use Rattle.writer_meta.specs.Metadata.{Meta, meta_of}
 use Rattle.writer_meta.specs.Allowed.{IsAllowed}
 use Rattle.writer_meta.proofs.Laws.{and_left, and_right}
 use Rattle.component_doc.specs.declared.choice.Choice.{Choice}
@@ -38,9 +38,7 @@ few-known (x ∷ ms) zero all = and_left (has_few x) _ all
 few-known (x ∷ ms) (suc w) all = few-known ms w (and_right (has_few x) _ all)
 
 pub few-components : (ms : List (Option Meta)) (w : ℕ) (m : Metadata) → Some (meta_of m) ≡ meta_at (slice_get ms w) → all_have_few ms ≡ true → length m.components ≤ 1024
-few-components ms w m at all =
-    let few : nat_le (length (map part_of m.components)) 1024 ≡ true = subst (λ (o : Option Meta). has_few o ≡ true) (sym at) (few-known ms w all) in
-    grind (arith, nat_tests, length-map, few)
+few-components ms w m at all = grind (arith, common_steps, few-known ms w all)
 
 pub allowed-known : (ms : List (Option Meta)) (w : ℕ) (m : Meta) → Some m ≡ meta_at (slice_get ms w) → AreAllowed ms → IsAllowed m
 allowed-known [] w m at all = absurd (none-some m (sym at))
@@ -97,11 +95,7 @@ known-step a (suc w) (x ∷ ms) l = ap (λ ys. (if is_some (meta_at (slice_get m
 
 pub known-on : {R : Type 0} (ms : List (Option Meta)) (w : ℕ) (ws new : List ℕ) (b : Bool) (f : R → Meta) (r : Option R) → w < length ms → new ≡ ws ++ (if b then w ∷ [] else []) → b ≡ is_some r
     → option_map f r ≡ meta_at (slice_get ms w) → ws ++ known_from w (drop w ms) ≡ known_from 0 ms → new ++ known_from (w + 1) (drop (w + 1) ms) ≡ known_from 0 ms
-known-on ms w ws new b f r l is some at so_far =
-    let known : b ≡ is_some (meta_at (slice_get ms w)) = some ∙ some-map f r ∙ ap is_some at in
-    ap (λ ys. ys ++ known_from (w + 1) (drop (w + 1) ms)) (is ∙ ap (λ x. ws ++ (if x then w ∷ [] else [])) known)
-    ∙ rw append_assoc (ap (λ ys. ws ++ ys) (known-step w w ms l))
-    ∙ so_far
+known-on ms w ws new b f r l is some at so_far = grind (arith, common_steps, some-map f r, known-step w w ms l)
 
 pub known-end : (ms : List (Option Meta)) (w : ℕ) (ws : List ℕ) → length ms ≤ w → ws ++ known_from w (drop w ms) ≡ known_from 0 ms → ws ≡ known_from 0 ms
 known-end ms w ws past so_far = sym (append-nil ws) ∙ ap (λ ys. ws ++ known_from w ys) (sym (drop_all w ms past)) ∙ so_far
@@ -114,10 +108,7 @@ chosen-step s a (suc w) (m ∷ ms) l = ap (λ ys. choices_of s a (meta_at (slice
 
 pub chosen-on : (s t : Selected) (ms : List (Option Meta)) (w : ℕ) (cs new : List Choice) (o : Option Meta) → t ≡ s → w < length ms → new ≡ cs ++ choices_of t w o → o ≡ meta_at (slice_get ms w)
     → cs ++ chosen_from s w (drop w ms) ≡ chosen s ms → new ++ chosen_from s (w + 1) (drop (w + 1) ms) ≡ chosen s ms
-chosen-on s t ms w cs new o same l is at so_far =
-    ap (λ ys. ys ++ chosen_from s (w + 1) (drop (w + 1) ms)) (is ∙ ap (λ (u : Selected). cs ++ choices_of u w o) same ∙ ap (λ x. cs ++ choices_of s w x) at)
-    ∙ rw append_assoc (ap (λ ys. cs ++ ys) (chosen-step s w w ms l))
-    ∙ so_far
+chosen-on s t ms w cs new o same l is at so_far = grind (arith, common_steps, chosen-step)
 
 -- ## a selection over these metadata
 

@@ -3,6 +3,7 @@ use Rattle.std.proofs.Common.{◌≡◌, ◌∙◌, ℕ, zero, suc, ◌+◌, ◌
 use Rattle.std.proofs.lemmas.Bool.Decides.{nat_tests}
 use Rattle.std.specs.List.{list_all}
 use Rattle.std.proofs.lemmas.Bool.{or_parts}
+use Rattle.std.proofs.lemmas.Grind.{common_steps}
 use Rattle.writer_meta.proofs.Laws.{and_left, and_right}
 use Rattle.component_doc.specs.Selection.{Pair, comes_before, is_pair, has_pair, with_pair}
 use Rattle.component_doc.specs.Over.{is_ascending, is_before_next}
@@ -30,21 +31,15 @@ ascending-if b xs ys one other = grind arith
 -- what holds of the new pair and of all others holds of all
 pub all-with_pair : (P : Pair → Bool) (q : Pair) (ps : List Pair) → P q ≡ true → list_all P ps ≡ true → list_all P (with_pair q ps) ≡ true
 all-with_pair P q [] new all = both _ _ new refl
-all-with_pair P q (p ∷ ps) new all =
-    all-if P (comes_before q p) (q ∷ p ∷ ps) (p ∷ with_pair q ps)
-    (λ _. both (P q) _ new all)
-    (λ _. both (P p) _ (and_left _ _ all) (all-with_pair P q ps new (and_right (P p) _ all)))
+all-with_pair P q (p ∷ ps) new all = grind (arith, common_steps, both, all-if, and_left, and_right, all-with_pair P q ps new (and_right (P p) _ all))
 
 -- a pair that is new goes to its place
 pub ascending-with_pair : (q : Pair) (ps : List Pair) → has_pair ps q.writer q.component ≡ false → is_ascending ps ≡ true → is_ascending (with_pair q ps) ≡ true
 ascending-with_pair q [] new up = refl
 ascending-with_pair q (p ∷ ps) new up =
     let other = or_parts (is_pair q.writer q.component p) (has_pair ps q.writer q.component) new in
-    let behind = and_left (list_all (comes_before p) ps) (is_ascending ps) up in
-    let rest = and_right (list_all (comes_before p) ps) (is_ascending ps) up in
-    ascending-if (comes_before q p) (q ∷ p ∷ ps) (p ∷ with_pair q ps)
-    (λ before. both _ _ (both (comes_before q p) _ before (behind-all q p ps before behind)) up)
-    (λ not_before. both _ _ (all-with_pair (comes_before p) q ps (total p q not_before other.0) behind) (ascending-with_pair q ps other.1 rest))
+    let behind = and_left (list_all (comes_before p) ps) (is_ascending ps) up in let rest = and_right (list_all (comes_before p) ps) (is_ascending ps) up in
+    grind (arith, common_steps, ascending-if, both, behind-all, all-with_pair, total, ascending-with_pair q ps other.1 rest)
 
 -- ## neighbours
 

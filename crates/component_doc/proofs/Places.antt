@@ -1,14 +1,15 @@
 -- Pairs that come before a component, and pairs that do not.
-use Rattle.std.proofs.Common.{◌≡◌, ◌∙◌, ℕ, ◌+◌, ◌<◌, ◌≤◌, List, [], ◌∷◌, ◌++◌, length, Bool, true, false, true≢false, ◌||◌, ◌==◌, Option, Some, None, slice_get, arith, refl, sym, ap, subst}
+use Rattle.std.proofs.Common.{◌≡◌, ℕ, ◌+◌, ◌<◌, ◌≤◌, List, [], ◌∷◌, ◌++◌, length, Bool, true, false, true≢false, ◌||◌, ◌==◌, Option, Some, None, slice_get, arith, refl, sym, ap}
 use Rattle.std.specs.Prelude.{⊤}
 use Rattle.std.proofs.lemmas.Bool.Decides.{nat_tests}
 use Rattle.std.proofs.lemmas.Option.{slice_get_past}
 use Rattle.std.specs.List.{list_all}
 use Rattle.std.proofs.lemmas.Bool.{or_parts}
+use Rattle.std.proofs.lemmas.Grind.{common_steps}
 use Rattle.writer_meta.specs.Metadata.{Meta}
 use Rattle.writer_meta.proofs.Laws.{and_left, and_right}
 use Rattle.component_doc.specs.Selection.{Pair, Named, comes_before, is_pair, has_pair, with_pair, is_taker}
-use Rattle.component_doc.specs.Over.{meta_at, is_selectable_of, names_selectable, is_ascending}
+use Rattle.component_doc.specs.Over.{names_selectable, is_ascending}
 
 abbrev pub pair : ℕ → ℕ → Pair
 pair w i = record { writer = w; component = i }
@@ -68,14 +69,9 @@ pub all-ahead : (ps : List Pair) → AllAhead 0 0 ps
 all-ahead [] = tt
 all-ahead (p ∷ ps) = (record { writer = omega arith; component = λ _. omega arith }, all-ahead ps)
 
-ahead-one : (w i : ℕ) (p : Pair) → IsAhead w i p → is_pair w i p ≡ false → IsAhead w (i + 1) p
-ahead-one w i p ahead other = grind arith
-
 pub ahead-next : (w i : ℕ) (ps : List Pair) → AllAhead w i ps → has_pair ps w i ≡ false → AllAhead w (i + 1) ps
 ahead-next w i [] all none = tt
-ahead-next w i (p ∷ ps) all none =
-    let others = or_parts (is_pair w i p) (has_pair ps w i) none in
-    (ahead-one w i p all.0 others.0, ahead-next w i ps all.1 others.1)
+ahead-next w i (p ∷ ps) all none = let others = or_parts (is_pair w i p) (has_pair ps w i) none in grind (arith, common_steps, ahead-next w i ps all.1 others.1)
 
 behind-one : (w i : ℕ) (p : Pair) → comes_before (pair w i) p ≡ true → IsAhead w (i + 1) p
 behind-one w i p before = record { writer = grind (arith, nat_tests); component = λ e. grind (arith, nat_tests) }
@@ -103,10 +99,7 @@ pub record IsFront (w i : ℕ) (rest : List Pair) : Type 0 where
   pub up : is_ascending more ≡ true
 
 front-if : (w i : ℕ) (r : Pair) (ps : List Pair) (b : Bool) → is_pair w i r ≡ b → IsAhead w i r → is_ascending (r ∷ ps) ≡ true → (b || has_pair ps w i) ≡ true → IsFront w i (r ∷ ps)
-front-if w i r ps true this ahead up has =
-    let same = same-pair w i r this in
-    let behind = subst (λ q. list_all (comes_before q) ps ≡ true) same (and_left _ _ up) in
-    record { more = ps; is = ap (λ q. q ∷ ps) same; ahead = behind-ahead w i ps behind; up = and_right (list_all (comes_before r) ps) _ up }
+front-if w i r ps true this ahead up has = grind (arith, common_steps, same-pair, and_left, behind-ahead, and_right)
 front-if w i r ps false other ahead up has = absurd (not-behind w i r ahead (member-behind r ps w i (and_left _ _ up) has))
 
 pub front : (w i : ℕ) (rest : List Pair) → AllAhead w i rest → is_ascending rest ≡ true → has_pair rest w i ≡ true → IsFront w i rest
@@ -122,8 +115,7 @@ ahead-writer w i p ahead other = record { writer = omega (arith, ahead.writer, o
 pub absent-over : (w i : ℕ) (ps : List Pair) → AllAhead w i ps → is_taker (Named ps) w ≡ false → AllAhead (w + 1) 0 ps
 absent-over w i [] all none = tt
 absent-over w i (p ∷ ps) all none =
-    let others = or_parts (p.writer == w) (is_taker (Named ps) w) none in
-    (ahead-writer w i p all.0 (λ e. grind (arith, nat_tests, others.0, e)), absent-over w i ps all.1 others.1)
+    let others = or_parts (p.writer == w) (is_taker (Named ps) w) none in grind (arith, common_steps, ahead-writer, absent-over w i ps all.1 others.1)
 
 not-unknown : (ms : List (Option Meta)) (w : ℕ) (p : Pair) → slice_get ms w ≡ Some None → names_selectable ms p ≡ true → p.writer ≡ w → ⊥
 not-unknown ms w p at names e = grind arith
@@ -131,8 +123,7 @@ not-unknown ms w p at names e = grind arith
 -- none is of a writer that is not known
 pub unknown-over : (ms : List (Option Meta)) (w i : ℕ) (ps : List Pair) → slice_get ms w ≡ Some None → list_all (names_selectable ms) ps ≡ true → AllAhead w i ps → AllAhead (w + 1) 0 ps
 unknown-over ms w i [] at names all = tt
-unknown-over ms w i (p ∷ ps) at names all =
-    (ahead-writer w i p all.0 (not-unknown ms w p at (and_left _ _ names)), unknown-over ms w i ps at (and_right (names_selectable ms p) _ names) all.1)
+unknown-over ms w i (p ∷ ps) at names all = grind (arith, common_steps, ahead-writer, not-unknown, and_left, and_right, unknown-over ms w i ps)
 
 not-past : (ms : List (Option Meta)) (w : ℕ) (m : Meta) (p : Pair) → slice_get ms w ≡ Some (Some m) → names_selectable ms p ≡ true → IsAhead w (length m.parts) p → p.writer ≡ w → ⊥
 not-past ms w m p at names ahead e = grind (arith, slice_get_past)
@@ -141,12 +132,9 @@ not-past ms w m p at names ahead e = grind (arith, slice_get_past)
 pub writer-over : (ms : List (Option Meta)) (w : ℕ) (m : Meta) (ps : List Pair) → slice_get ms w ≡ Some (Some m) → list_all (names_selectable ms) ps ≡ true
     → AllAhead w (length m.parts) ps → AllAhead (w + 1) 0 ps
 writer-over ms w m [] at names all = tt
-writer-over ms w m (p ∷ ps) at names all =
-    (ahead-writer w (length m.parts) p all.0 (not-past ms w m p at (and_left _ _ names) all.0), writer-over ms w m ps at (and_right (names_selectable ms p) _ names) all.1)
+writer-over ms w m (p ∷ ps) at names all = grind (arith, common_steps, ahead-writer, not-past, and_left, and_right, writer-over ms w m ps)
 
 -- none is behind the last writer
 pub all-over : (ms : List (Option Meta)) (w i : ℕ) (ps : List Pair) → length ms ≤ w → list_all (names_selectable ms) ps ≡ true → AllAhead w i ps → ps ≡ []
 all-over ms w i [] past names all = refl
-all-over ms w i (p ∷ ps) past names all =
-    let none : names_selectable ms p ≡ false = ap (λ o. is_selectable_of p.component (meta_at o)) (slice_get_past ms p.writer (omega (arith, all.0.writer))) in
-    absurd (true≢false (sym (and_left _ _ names) ∙ none))
+all-over ms w i (p ∷ ps) past names all = grind (arith, common_steps, slice_get_past, and_left)

@@ -1,7 +1,7 @@
 -- The text of a component document reads back as the value that was written.
-use Rattle.std.proofs.Common.{◌≡◌, ◌∙◌, ℕ, ◌<◌, ◌≤◌, ◌^◌, List, [], ◌∷◌, length, Bool, true, false, Option, Some, None, option_map, option_and_then, slice_get, refl, sym, ap, subst, arith, append-nil}
+use Rattle.std.proofs.Common.{◌≡◌, ℕ, ◌<◌, ◌≤◌, ◌^◌, List, [], ◌∷◌, length, Bool, true, false, Option, Some, None, option_map, slice_get, refl, subst, arith}
 use Rattle.std.proofs.lemmas.Option.{none-some, same_Some, slice_get_within}
-use Rattle.json.specs.Lex.{tokens}
+use Rattle.std.proofs.lemmas.Grind.{common_steps}
 use Rattle.json.specs.Json as json
 use Rattle.json.specs.Tree as tree
 use Rattle.json.proofs.Printed.Trees.{value-json_tokens, ArePrintable-json_tokens}
@@ -106,10 +106,8 @@ has_float-document ms s c few = document-whole (choices_data ms (chosen s ms)) c
 -- the grammar reads the text of such a value back
 read-compact_text : (d : Data) → of_json (outline d) ≡ Some d → tree.HasNumbers (outline d) → tree.depth (outline d) ≤ 127 → read (compact_text d) ≡ Some d
 read-compact_text d back numbers shallow =
-    let ts = tree.json_tokens (outline d) in
-    let same : tokens (compact_text d) ≡ ts = ap tokens (sym (print-outline d)) ∙ tokens-print ts (ArePrintable-json_tokens (outline d) numbers) in
-    ap (λ o. option_and_then of_json (option_and_then (λ p. json.if_last p.0 p.1) o)) (ap (json.value max_depth) (same ∙ sym (append-nil ts)) ∙ value-json_tokens (outline d) max_depth [] shallow)
-    ∙ back
+    let ts = tree.json_tokens (outline d) in let fact = tokens-print ts (ArePrintable-json_tokens (outline d) numbers) in
+    grind (arith, common_steps, print-outline d, value-json_tokens (outline d) max_depth [] shallow)
 
 pub read-document_text : (ms : List (Option Meta)) (s : Selected) (c : Context) → length ms < 2 ^ 32 → read (document_text ms s c) ≡ Some (document ms s c)
 unfolding document_text

@@ -1,15 +1,15 @@
 -- The writers that take part, one writer more.
-use Rattle.std.proofs.Common.{◌≡◌, ℕ, zero, suc, ◌+◌, ◌≤◌, ◌==◌, ◌&&◌, ◌||◌, Bool, nat_lt, List, [], ◌∷◌, ◌++◌, map, filter, cond, append-nil, refl, sym, ap, arith, ◌∙◌, true, false}
+use Rattle.std.proofs.Common.{◌≡◌, ℕ, zero, suc, ◌+◌, ◌≤◌, ◌==◌, ◌&&◌, ◌||◌, Bool, nat_lt, List, [], ◌∷◌, ◌++◌, map, filter, cond, refl, sym, ap, arith, ◌∙◌, true, false}
 use Rattle.std.proofs.lemmas.Bool.{eqb-true}
 use Rattle.std.proofs.lemmas.Bool.Decides.{nat_tests}
 use Rattle.std.proofs.lemmas.Map.Views.{any-filter_same}
 use Rattle.std.proofs.lemmas.List.FromFn.{filter_of_map_range_with_len_more}
 use Rattle.std.specs.List.{list_any, range_with_len}
+use Rattle.std.proofs.lemmas.Grind.{common_steps}
 use Rattle.component_doc.specs.Selection.{Selected, is_taker, takers}
 
 map-same : (xs : List ℕ) → map (λ x. x) xs ≡ xs
-map-same [] = refl
-map-same (x ∷ xs) = ap (λ r. x ∷ r) (map-same xs)
+map-same xs = grind (arith, common_steps)
 
 more : (s : Selected) (n : ℕ) → filter (is_taker s) (range_with_len 0 (n + 1)) ≡ filter (is_taker s) (range_with_len 0 n) ++ cond (is_taker s n) (n ∷ []) []
 more s n =
@@ -23,8 +23,7 @@ taken s n writers takes so_far = ap (λ r. r ++ n ∷ []) so_far ∙ sym (more s
 
 pub passed : (s : Selected) (n : ℕ) (writers : List ℕ) → is_taker s n ≡ false → writers ≡ filter (is_taker s) (range_with_len 0 n)
     → writers ≡ filter (is_taker s) (range_with_len 0 (n + 1))
-passed s n writers takes so_far =
-    so_far ∙ sym (more s n ∙ ap (λ b. filter (is_taker s) (range_with_len 0 n) ++ cond b (n ∷ []) []) takes ∙ append-nil (filter (is_taker s) (range_with_len 0 n)))
+passed s n writers takes so_far = grind (arith, common_steps, more)
 
 -- ## one writer
 
@@ -42,8 +41,4 @@ swapped b c = grind arith
 
 -- a writer takes part that is one of them, and is taken
 pub takes-is : (n : ℕ) (s : Selected) (w : ℕ) → (nat_lt w n && is_taker s w) ≡ list_any (λ x. x == w) (takers n s)
-takes-is n s w =
-    let from_zero : 0 + n ≡ n = omega arith in
-    sym (any-filter_same (λ x. x == w) (is_taker s) (is_taker s w) (λ k e. ap (is_taker s) (eqb-true k w e)) (range_with_len 0 n)
-    ∙ ap (λ b. is_taker s w && b) (any-range 0 n w (omega arith) ∙ ap (nat_lt w) from_zero)
-    ∙ swapped (is_taker s w) (nat_lt w n))
+takes-is n s w = grind (arith, common_steps, nat_tests, any-filter_same, eqb-true, any-range 0 n w (omega arith), swapped (is_taker s w) (nat_lt w n))

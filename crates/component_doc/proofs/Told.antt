@@ -1,26 +1,26 @@
 -- What a component document names is the selection that it was written of.
 use Rattle.std.proofs.Common.{◌≡◌, ◌∙◌, ℕ, zero, suc, ◌+◌, List, [], ◌∷◌, ◌++◌, length, Bool, true, false, not, ◌&&◌, ◌||◌, if◌then◌else◌, Option, Some, None}
-use Rattle.std.proofs.Common.{option_and_then, slice_get, arith, refl, sym, ap, subst, append_assoc, append-nil}
+use Rattle.std.proofs.Common.{slice_get, arith, refl, sym, ap, append_assoc}
 use Rattle.std.proofs.lemmas.List.Folds.{list_any-append}
 use Rattle.std.proofs.lemmas.Option.{none-some, same_Some}
 use Rattle.std.proofs.lemmas.Slice.Eq.{bytes_eq-Decides}
 use Rattle.std.specs.List.{list_all, list_any}
 use Rattle.std.specs.Str.{bytes_eq}
 use Rattle.std.proofs.lemmas.Bool.{or_parts}
+use Rattle.std.proofs.lemmas.Grind.{common_steps}
 use Rattle.serde_json.specs.Data.{Items, item}
 use Rattle.vss_names.specs.declared.context.Context.{Context}
 use Rattle.vss_names.proofs.ContextRows.{context_of_number-number_of}
 use Rattle.writer_meta.specs.Metadata.{Part, Meta, full_name}
 use Rattle.writer_meta.specs.Document.{double_after}
-use Rattle.writer_meta.proofs.Laws.{and_left, and_right}
+use Rattle.writer_meta.proofs.Laws.{and_right}
 use Rattle.component_doc.specs.declared.choice.Choice.{Choice}
-use Rattle.component_doc.specs.declared.found.Found.{Found}
-use Rattle.component_doc.specs.Selection.{Pair, Selected, Named, has_pair, found_from, found_in, naming, is_taker, has_named_ancestor, has_selectable_ancestor}
+use Rattle.component_doc.specs.Selection.{Pair, Selected, Named, has_pair, found_from, naming, is_taker, has_named_ancestor, has_selectable_ancestor}
 use Rattle.component_doc.specs.Selection.{is_chosen, choice_if, choices_from, chosen_from, chosen}
-use Rattle.component_doc.specs.Over.{AreAllowed, names_selectable, is_ascending, IsSelectedOver, is_selectable_of, meta_at, is_selectable}
+use Rattle.component_doc.specs.Over.{AreAllowed, names_selectable, is_ascending, IsSelectedOver}
 use Rattle.component_doc.specs.Document.{component_data, choices_data, document_of, document}
 use Rattle.component_doc.specs.Reading.{context_in, explicit_in, writer_in, path_in, pairs_named, named_by, named_by_all, components_in, selected_in}
-use Rattle.component_doc.proofs.Places.{pair, AllPassed, has-none, put-last, passed-on, passed-with, passed-writer, AllAhead, all-ahead, ahead-next, IsFront}
+use Rattle.component_doc.proofs.Places.{AllPassed, has-none, put-last, passed-on, passed-with, passed-writer, AllAhead, all-ahead, ahead-next, IsFront}
 use Rattle.component_doc.proofs.Places.{front, absent-over, unknown-over, writer-over, all-over}
 
 -- ## components by their full names
@@ -35,30 +35,20 @@ apart-if b x rest e = grind arith
 apart-at : (names : List (List ℕ)) (parts : List Part) (i : ℕ) (c : Part) → double_after names parts ≡ None → slice_get parts i ≡ Some c → list_any (λ name. bytes_eq name (full_name c)) names ≡ false
 unfolding double_after
 apart-at names [] i c apart at = absurd (none-some c at)
-apart-at names (p ∷ parts) zero c apart at =
-    let first = apart-if (list_any (λ name. bytes_eq name (full_name p)) names) (full_name p) (double_after (full_name p ∷ names) parts) apart in
-    subst (λ (q : Part). list_any (λ name. bytes_eq name (full_name q)) names ≡ false) (same_Some p c at) first.0
+apart-at names (p ∷ parts) zero c apart at = grind (arith, common_steps, apart-if, same_Some)
 apart-at names (p ∷ parts) (suc i) c apart at =
     let first = apart-if (list_any (λ name. bytes_eq name (full_name p)) names) (full_name p) (double_after (full_name p ∷ names) parts) apart in
     (or_parts (bytes_eq (full_name p) (full_name c)) (list_any (λ name. bytes_eq name (full_name c)) names) (apart-at (full_name p ∷ names) parts i c first.1 at)).1
-
-abbrev found-as : ℕ → Bool → Found
-found-as n s = record { component = n; selectable = s }
 
 found-from : (names : List (List ℕ)) (parts : List Part) (k i : ℕ) (c : Part) → double_after names parts ≡ None → slice_get parts i ≡ Some c
     → found_from (full_name c) k parts ≡ Some (record { component = k + i; selectable = c.selectable })
 unfolding double_after
 found-from names [] k i c apart at = absurd (none-some c at)
-found-from names (p ∷ parts) k zero c apart at =
-    let same : p ≡ c = same_Some p c at in
-    let here : bytes_eq (full_name p) (full_name c) ≡ true = ap (λ (q : Part). bytes_eq (full_name q) (full_name c)) same ∙ same-text (full_name c) in
-    let place : k ≡ k + 0 = omega arith in
-    rw here (ap (λ (q : Part). Some (found-as k q.selectable)) same ∙ ap (λ n. Some (found-as n c.selectable)) place)
+found-from names (p ∷ parts) k zero c apart at = grind (arith, common_steps, same_Some, same-text)
 found-from names (p ∷ parts) k (suc i) c apart at =
     let first = apart-if (list_any (λ name. bytes_eq name (full_name p)) names) (full_name p) (double_after (full_name p ∷ names) parts) apart in
-    let other = (or_parts (bytes_eq (full_name p) (full_name c)) (list_any (λ name. bytes_eq name (full_name c)) names) (apart-at (full_name p ∷ names) parts i c first.1 at)).0 in
-    let place : k + 1 + i ≡ k + suc i = omega arith in
-    rw other (found-from (full_name p ∷ names) parts (k + 1) i c first.1 at ∙ ap (λ n. Some (found-as n c.selectable)) place)
+    let fact = found-from (full_name p ∷ names) parts (k + 1) i c first.1 in
+    grind (arith, common_steps, or_parts (bytes_eq (full_name p) (full_name c)), apart-at (full_name p ∷ names) parts i c first.1)
 
 -- ## the object of a component
 
@@ -100,26 +90,8 @@ named-one : (ms : List (Option Meta)) (ps : List Pair) (m : Meta) (w i : ℕ) (c
     → Names-up-to ms ps w (i + 1) done (choices_data ms (record { writer = w; component = i; explicit = true } ∷ more)) (choices_data ms more)
 unfolding named_by_all
 named-one ms ps m w i c done rest more known found apart at first =
-    let names : list_all (names_selectable ms) (pair w i ∷ first.more) ≡ true = subst (λ qs. list_all (names_selectable ms) qs ≡ true) first.is at.names in
-    let selectable : c.selectable ≡ true =
-    sym (ap (λ o. is_selectable_of i (meta_at o)) known ∙ ap is_selectable found) ∙ and_left _ _ names in
-    let looked_up : found_in (full_name c) m.parts ≡ Some (record { component = i; selectable = c.selectable }) = found-from [] m.parts 0 i c apart found
-    ∙ ap (λ n. Some (found-as n c.selectable)) (omega arith) in
-    let named : pairs_named (naming ms w (full_name c) done) ≡ Some (done ++ pair w i ∷ []) =
-    rw known (rw looked_up (rw (selectable, has-none w i done at.passed) (ap (λ qs. Some qs) (put-last w i done at.passed)))) in
-    let here = item-here ms m (record { writer = w; component = i; explicit = true }) c more known found in
-    record {
-      now = done ++ pair w i ∷ [];
-      left = first.more;
-      step = ap (named_by_all ms done) here ∙ ap (option_and_then (λ qs. named_by_all ms qs (choices_data ms more))) (named_by-explicit ms done m.class (full_name c) w ∙ named);
-      place = record {
-        whole = append_assoc done (pair w i ∷ []) first.more ∙ ap (λ qs. done ++ qs) (sym first.is) ∙ at.whole;
-        passed = passed-with w i done at.passed;
-        ahead = first.ahead;
-        up = first.up;
-        names = and_right (names_selectable ms (pair w i)) _ names;
-      };
-    }
+    let fact = named_by-explicit ms done m.class (full_name c) w in let fact1 = found-from [] m.parts 0 i c apart found in
+    grind (arith, common_steps, has-none w i done at.passed, put-last w i done at.passed, item-here ms m, passed-with w i done at.passed)
 
 -- a component that was not
 other-one : (ms : List (Option Meta)) (ps : List Pair) (m : Meta) (w i : ℕ) (c : Part) (done rest : List Pair) (more : List Choice) (is_chosen : Bool) → slice_get ms w ≡ Some (Some m)
@@ -140,19 +112,7 @@ through-parts : (ms : List (Option Meta)) (ps : List Pair) (m : Meta) (w i : ℕ
     → ((k : ℕ) → slice_get cs k ≡ slice_get m.parts (i + k)) → i + length cs ≡ length m.parts → IsAt ms ps w i done rest
     → Names-up-to ms ps (w + 1) 0 done (choices_data ms (choices_from (Named ps) m.parts w i cs ++ more)) (choices_data ms more)
 through-parts ms ps m w i [] done rest more known apart tie end at =
-    let past : i ≡ length m.parts = omega (arith, end) in
-    record {
-      now = done;
-      left = rest;
-      step = refl;
-      place = record {
-        whole = at.whole;
-        passed = passed-writer w i done at.passed;
-        ahead = writer-over ms w m rest known at.names (subst (λ k. AllAhead w k rest) past at.ahead);
-        up = at.up;
-        names = at.names;
-      };
-    }
+    let past : i ≡ length m.parts = omega (arith, end) in grind (arith, common_steps, passed-writer, writer-over)
 through-parts ms ps m w i (c ∷ cs) done rest more known apart tie end at =
     let after = choices_from (Named ps) m.parts w (i + 1) cs ++ more in
     let here : slice_get m.parts i ≡ Some c = ap (slice_get m.parts) (plus-none i) ∙ sym (tie 0) in
@@ -188,9 +148,7 @@ through-writers : (ms : List (Option Meta)) (ps : List Pair) (w : ℕ) (os : Lis
     → ((k : ℕ) → slice_get os k ≡ slice_get ms (w + k)) → w + length os ≡ length ms
     → IsAt ms ps w 0 done rest → named_by_all ms done (choices_data ms (chosen_from (Named ps) w os)) ≡ Some ps
 unfolding named_by_all
-through-writers ms ps w [] done rest allowed tie end at =
-    let none : rest ≡ [] = all-over ms w 0 rest (omega (arith, end)) at.names at.ahead in
-    ap (λ qs. Some qs) (sym (append-nil done) ∙ ap (λ qs. done ++ qs) (sym none) ∙ at.whole)
+through-writers ms ps w [] done rest allowed tie end at = grind (arith, common_steps, all-over)
 through-writers ms ps w (None ∷ os) done rest allowed tie end at =
     let known : slice_get ms w ≡ Some None = ap (slice_get ms) (plus-none w) ∙ sym (tie 0) in
     let place : IsAt ms ps (w + 1) 0 done rest = record {
@@ -220,8 +178,7 @@ through-writers ms ps w (Some m ∷ os) done rest allowed tie end at =
 
 named-back : (ms : List (Option Meta)) (ps : List Pair) → AreAllowed ms → IsSelectedOver ms (Named ps) → named_by_all ms [] (choices_data ms (chosen (Named ps) ms)) ≡ Some ps
 named-back ms ps allowed over =
-    through-writers ms ps 0 ms [] ps allowed (λ k. ap (slice_get ms) (omega arith)) (omega arith)
-    (record { whole = refl; passed = tt; ahead = all-ahead ps; up = and_right (list_all (names_selectable ms) ps) _ over; names = and_left _ _ over })
+    grind (arith, common_steps, through-writers ms ps 0 ms [] ps allowed, all-ahead ps, and_right (list_all (names_selectable ms) ps))
 
 -- ## the whole
 

@@ -6,10 +6,10 @@ use Rattle.std.proofs.lemmas.List.{length-map, take_at}
 use Rattle.vss_names.specs.Faults.{HasCause}
 use Rattle.volume_device.specs.declared.device.Device.{Ghosts}
 use Rattle.cow_volume.specs.Tied.{CopiesValue}
-use Rattle.cow_volume.specs.Changes.{HasNoCopy}
-use Rattle.cow_volume.specs.Calls.{IsNow, IsShown, StillLasts, blocks_in}
+use Rattle.cow_volume.specs.Changes.{IsInVolume}
+use Rattle.cow_volume.specs.Calls.{IsSeen, StillLasts, blocks_in}
 use Rattle.cow_volume.proofs.Group.{slice_get_inside}
-use Rattle.cow_volume.proofs.Reading.{group_now, group_shown_there}
+use Rattle.cow_volume.proofs.Reading.{group_seen_there}
 use Rattle.cow_volume.specs.Parts.{group_of, size_at, IsCalled, IsRead, IsPut}
 
 pub on_ok : {T E : Type 0} (r : Result T E) (P : Type 0) → OnOk r P → is_err r ≡ false → P
@@ -100,17 +100,11 @@ pub device_with : {D : Type 0} (size : D → ℕ) (devices : List D) (volumes : 
     → (d : D) × (slice_get devices v ≡ Some d)
 device_with size devices volumes v b sizes l = grind (arith, slice_get_inside, size_within)
 
--- what was read of a volume's device is what the volume has now
-pub read_is_now : {D : Type 0} (ghosts : Ghosts D) (devices new : List D) (copies : CopiesValue D) (v b : ℕ) (bytes : List ℕ)
+-- what was read of a volume's device is what is seen, where no slot has that
+pub read_is_seen : {D : Type 0} (ghosts : Ghosts D) (devices new : List D) (copies : CopiesValue D) (v : ℕ) (set : Option ℕ) (b : ℕ) (bytes : List ℕ)
     → b < blocks_in (slice_get copies.area.volumes v)
-    → IsRead ghosts v b bytes devices new false → IsNow ghosts.told (group_of devices copies) v b bytes
-read_is_now ghosts devices new copies v b bytes l read = group_now ghosts.told (group_of devices copies) v b read.call.before bytes l read.call.was (read.block refl)
-
--- where no image has a copy, it is what the image shows
-pub read_is_shown : {D : Type 0} (ghosts : Ghosts D) (devices new : List D) (copies : CopiesValue D) (v set b : ℕ) (bytes : List ℕ)
-    → b < blocks_in (slice_get copies.area.volumes v)
-    → IsRead ghosts v b bytes devices new false → HasNoCopy copies.area.records v set b → IsShown ghosts.told (group_of devices copies) v set b bytes
-read_is_shown ghosts devices new copies v set b bytes l read none = group_shown_there ghosts.told (group_of devices copies) v set b read.call.before bytes l read.call.was
+    → IsRead ghosts v b bytes devices new false → IsInVolume copies.area.records v set b → IsSeen ghosts.told (group_of devices copies) v set b bytes
+read_is_seen ghosts devices new copies v set b bytes l read none = group_seen_there ghosts.told (group_of devices copies) v set b read.call.before bytes l read.call.was
     (read.block refl) none
 
 -- a buffer that was filled has what it was filled with

@@ -82,11 +82,6 @@ one_shown told volume set b bytes one is = λ h p stood all point.
     let device = first_of_one volume.devices one in
     is (h ∷ []) device.0 p stood device.1 (device_tells told volume all 0 device.0 device.1) (area_tells told volume all) point
 
-pub one_now_if : {D E : Type 0} → (told : D → Option (List (List ℕ))) (volume : GroupValue D) (b : ℕ) (bytes : List ℕ) (result : Result Unit E)
-    → length volume.devices ≡ 1 → OnOk result (IsNow told volume 0 b bytes) → OnOk result (IsOneNow told volume b bytes)
-one_now_if told volume b bytes (Ok done) one is = one_now told volume b bytes one is
-one_now_if told volume b bytes (Err e) one is = tt
-
 pub one_shown_if : {D E : Type 0} → (told : D → Option (List (List ℕ))) (volume : GroupValue D) (set b : ℕ) (bytes : List ℕ) (result : Result Unit E)
     → length volume.devices ≡ 1 → OnOk result (IsShown told volume 0 set b bytes) → OnOk result (IsOneShown told volume set b bytes)
 one_shown_if told volume set b bytes (Ok done) one is = one_shown told volume set b bytes one is

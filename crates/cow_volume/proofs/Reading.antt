@@ -12,8 +12,8 @@ use Rattle.diff_area.specs.Places.{place_of_slot}
 use Rattle.diff_area.specs.declared.table_record.Record.{Record}
 use Rattle.cow_volume.specs.StandsFor.{is_named, told_in, IsVolume, StandsFor}
 use Rattle.cow_volume.specs.GroupValue.{GroupValue}
-use Rattle.cow_volume.specs.Calls.{history_at, blocks_in, blocks_at, sets_in, sets_at, IsNow, IsShown}
-use Rattle.cow_volume.specs.Changes.{IsFirstCopy, HasNoCopy}
+use Rattle.cow_volume.specs.Calls.{history_at, blocks_in, blocks_at, sets_in, sets_at, IsNow, IsSeen, IsShown}
+use Rattle.cow_volume.specs.Changes.{IsFirstCopy, HasNoCopy, IsInSlot, IsInVolume}
 use Rattle.cow_volume.proofs.Group.{same_number, number_is, number_is_other, set_above, named_point, told_in-tells, told_in-both, place_at}
 
 -- ## content
@@ -218,7 +218,7 @@ pub one_told : (told : Option (List (List ℕ))) (b : ℕ) (x y : List ℕ) → 
 one_told told b x y one two tells = grind arith
 
 -- what the device has of a block is what the volume has now
-pub group_now : {D : Type 0} → (told : D → Option (List (List ℕ))) (g : GroupValue D) (v b : ℕ) (d : D) (bytes : List ℕ) → b < blocks_at g v → slice_get g.devices v ≡ Some d
+group_now : {D : Type 0} → (told : D → Option (List (List ℕ))) (g : GroupValue D) (v b : ℕ) (d : D) (bytes : List ℕ) → b < blocks_at g v → slice_get g.devices v ≡ Some d
     → IfSome (told d) (λ blocks. slice_get blocks b ≡ Some bytes) → IsNow told g v b bytes
 group_now told g v b d bytes l device held = λ hs x stands at tells area_tells.
     let place = place_of_block told g hs v b stands l in
@@ -232,7 +232,7 @@ group_now told g v b d bytes l device held = λ hs x stands at tells area_tells.
     (now (told_in (told g.area.device) (told place.device)) (told g.area.device) g.area.records v place.blocks (sets_at g v) (history_at hs v) b place.stands place.within))) tells
 
 -- where no image from the asked one on has a copy, it is what the image shows
-pub group_shown_there : {D : Type 0} → (told : D → Option (List (List ℕ))) (g : GroupValue D) (v set b : ℕ) (d : D) (bytes : List ℕ) → b < blocks_at g v → slice_get g.devices v ≡ Some d
+group_shown_there : {D : Type 0} → (told : D → Option (List (List ℕ))) (g : GroupValue D) (v set b : ℕ) (d : D) (bytes : List ℕ) → b < blocks_at g v → slice_get g.devices v ≡ Some d
     → IfSome (told d) (λ blocks. slice_get blocks b ≡ Some bytes) → HasNoCopy g.area.records v set b → IsShown told g v set b bytes
 group_shown_there told g v set b d bytes l device held none = λ hs x p stands at tells area_tells point.
     let place = place_of_block told g hs v b stands l in
@@ -240,7 +240,7 @@ group_shown_there told g v set b d bytes l device held none = λ hs x p stands a
     ∙ sym (in_volume (told_in (told g.area.device) (told place.device)) (told g.area.device) g.area.records v place.blocks (sets_at g v) (history_at hs v) set b p place.stands place.within point none)
 
 -- what the slot of the first copy holds is what the image shows
-pub group_shown_copy : {D : Type 0} → (told : D → Option (List (List ℕ))) (g : GroupValue D) (v set b slot : ℕ) (bytes : List ℕ) → b < blocks_at g v → IsFirstCopy g.area.records v set b slot
+group_shown_copy : {D : Type 0} → (told : D → Option (List (List ℕ))) (g : GroupValue D) (v set b slot : ℕ) (bytes : List ℕ) → b < blocks_at g v → IsFirstCopy g.area.records v set b slot
     → IfSome (told g.area.device) (λ blocks. slice_get blocks (place_of_slot (length g.area.records) slot) ≡ Some bytes) → IsShown told g v set b bytes
 group_shown_copy told g v set b slot bytes l found held = λ hs x p stands at tells area_tells point.
     let place = place_of_block told g hs v b stands l in
@@ -249,3 +249,14 @@ group_shown_copy told g v set b slot bytes l found held = λ hs x p stands at te
     (in_copy (told_in (told g.area.device) (told place.device)) (told g.area.device) g.area.records v place.blocks (sets_at g v) (history_at hs v) set b p slot place.stands place.within point found
     (told_in-both (told g.area.device) (told place.device) area_tells (sym (ap (λ (y : _). is_some (told y)) here) ∙ tells)))
     area_tells
+
+-- so what the device has, or the slot, is what is seen
+pub group_seen_there : {D : Type 0} → (told : D → Option (List (List ℕ))) (g : GroupValue D) (v : ℕ) (set : Option ℕ) (b : ℕ) (d : D) (bytes : List ℕ) → b < blocks_at g v
+    → slice_get g.devices v ≡ Some d → IfSome (told d) (λ blocks. slice_get blocks b ≡ Some bytes) → IsInVolume g.area.records v set b → IsSeen told g v set b bytes
+group_seen_there told g v None b d bytes l device held none = group_now told g v b d bytes l device held
+group_seen_there told g v (Some set) b d bytes l device held none = group_shown_there told g v set b d bytes l device held none
+
+pub group_seen_copy : {D : Type 0} → (told : D → Option (List (List ℕ))) (g : GroupValue D) (v : ℕ) (set : Option ℕ) (b slot : ℕ) (bytes : List ℕ) → b < blocks_at g v
+    → IsInSlot g.area.records v set b slot → IfSome (told g.area.device) (λ blocks. slice_get blocks (place_of_slot (length g.area.records) slot) ≡ Some bytes) → IsSeen told g v set b bytes
+group_seen_copy told g v None b slot bytes l found held = absurd found
+group_seen_copy told g v (Some set) b slot bytes l found held = group_shown_copy told g v set b slot bytes l found held

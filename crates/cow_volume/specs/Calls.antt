@@ -159,12 +159,24 @@ is_among set sets = list_any (λ s. s == set) sets
 abbrev pub sets_at : {D : Type 0} → GroupValue D → ℕ → List ℕ
 sets_at g v = sets_in (slice_get g.images v)
 
--- why a call on the image of a set failed: the first cause that stands
-abbrev pub HasImageCause : {D : Type 0} → (D → ℕ) → ℕ → ℕ → ℕ → GroupValue D → GroupValue D → ImageFault → Type 0
-HasImageCause count v set b old new NoSuchImage = (is_among set (sets_at old v) ≡ false) × (new ≡ old)
-HasImageCause count v set b old new NoBlock = (is_among set (sets_at old v) ≡ true) × (blocks_at old v ≤ b) × (new ≡ old)
-HasImageCause count v set b old new VolumeFailed = (is_among set (sets_at old v) ≡ true) × (b < blocks_at old v) × VolumeRose count v old new
-HasImageCause count v set b old new AreaFailed = (is_among set (sets_at old v) ≡ true) × (b < blocks_at old v) × AreaRose count old new
+-- whether it is there: as it is now, or as the image of one of these sets
+abbrev pub is_there : Option ℕ → List ℕ → Bool
+is_there None sets = true
+is_there (Some set) sets = is_among set sets
+
+-- why a call on volume v, as it is now or as the image of a set shows it, failed: the first cause that stands
+abbrev pub HasImageCause : {D : Type 0} → (D → ℕ) → ℕ → Option ℕ → ℕ → GroupValue D → GroupValue D → ImageFault → Type 0
+HasImageCause count v set b old new NoSuchImage = (is_there set (sets_at old v) ≡ false) × (new ≡ old)
+HasImageCause count v set b old new NoBlock = (is_there set (sets_at old v) ≡ true) × (blocks_at old v ≤ b) × (new ≡ old)
+HasImageCause count v set b old new VolumeFailed = (is_there set (sets_at old v) ≡ true) × (b < blocks_at old v) × VolumeRose count v old new
+HasImageCause count v set b old new AreaFailed = (is_there set (sets_at old v) ≡ true) × (b < blocks_at old v) × AreaRose count old new
+
+-- that cause, but where the image is wanting
+abbrev pub cause_of : ImageFault → Option Cause
+cause_of NoSuchImage = None
+cause_of NoBlock = Some NoSuchBlock
+cause_of VolumeFailed = Some Volume
+cause_of AreaFailed = Some Area
 
 -- ## images
 

@@ -26,6 +26,15 @@ pub record IsFirstCopy (records : List Record) (v set b slot : ℕ) : Type 0 whe
 abbrev pub HasNoCopy : List Record → ℕ → ℕ → ℕ → Type 0
 HasNoCopy records v set b = (slot image : ℕ) → slice_get records slot ≡ Some (record_of v image b) → set ≤ image → ⊥
 
+-- likewise of what is shown of block b: a volume as it is now has it itself
+abbrev pub IsInSlot : List Record → ℕ → Option ℕ → ℕ → ℕ → Type 0
+IsInSlot records v None b slot = ⊥
+IsInSlot records v (Some set) b slot = IsFirstCopy records v set b slot
+
+abbrev pub IsInVolume : List Record → ℕ → Option ℕ → ℕ → Type 0
+IsInVolume records v None b = Unit {0}
+IsInVolume records v (Some set) b = HasNoCopy records v set b
+
 -- ## an image that goes
 
 abbrev pub is_of : ℕ → ℕ → Record → Bool

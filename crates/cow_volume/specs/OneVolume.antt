@@ -91,11 +91,11 @@ HasOneCause count b old new cause = HasCauseAt count 0 b old new cause
 
 -- why a call on block b of the image of a set failed: the first cause that stands
 abbrev pub HasOneImageCause : {D : Type 0} → (D → ℕ) → ℕ → ℕ → GroupValue D → GroupValue D → ImageFault → Type 0
-HasOneImageCause count set b old new fault = HasImageCause count 0 set b old new fault
+HasOneImageCause count set b old new fault = HasImageCause count 0 (Some set) b old new fault
 
 -- a block of an image is lent just where the device that has it lends: the area's, where an image has a copy, or else the volume's
 abbrev pub IsOneLentBy : {D : Type 0} → (D → Bool) → GroupValue D → ℕ → ℕ → Bool → Type 0
-IsOneLentBy lending volume set b lent = IsLentBy lending volume 0 set b lent
+IsOneLentBy lending volume set b lent = IsLentBy lending volume 0 (Some set) b lent
 
 -- ## images
 

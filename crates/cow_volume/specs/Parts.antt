@@ -1,12 +1,12 @@
 -- A group in its parts: the devices of its volumes, one for each and each of as many blocks as its volume has, and its copies. And
 -- what a call on one of the devices leaves of them. (This project's own.)
-use Rattle.std.specs.Prelude.{ℕ, ◌≡◌, ◌≤◌, Bool, true, false, List, map, Some, IfSome, slice_get, slice_set, option_map}
+use Rattle.std.specs.Prelude.{ℕ, ◌≡◌, ◌≤◌, Bool, true, false, List, map, Option, Some, IfSome, slice_get, slice_set, option_map}
 use Rattle.vss_names.specs.Faults.{Rose}
 use Rattle.volume_device.specs.declared.device.Device.{Ghosts}
 use Rattle.cow_volume.specs.GroupValue.{GroupValue}
 use Rattle.cow_volume.specs.Tied.{CopiesValue}
-use Rattle.cow_volume.specs.Changes.{IsFirstCopy, HasNoCopy}
-use Rattle.cow_volume.specs.Calls.{IsSameDevice, StillLasts, blocks_in, is_among}
+use Rattle.cow_volume.specs.Changes.{IsInSlot, IsInVolume}
+use Rattle.cow_volume.specs.Calls.{IsSameDevice, StillLasts, blocks_in, is_there}
 use Rattle.cow_volume.specs.declared.image_fault.ImageFault.{ImageFault}
 use Rattle.cow_volume.specs.declared.image_fault.ImageFault.TheVariants.{NoSuchImage, NoSuchBlock, Volume, Area}
 
@@ -57,15 +57,15 @@ pub record IsFlushed {D : Type 0} (ghosts : Ghosts D) (v : ℕ) (old new : List 
 
 -- ## what is lent
 
--- why no block of an image is shown, of a volume of so many blocks that has images of these sets: the first cause that stands, none
--- of which is a device's
-abbrev pub IsUnseen : List ℕ → ℕ → ℕ → ℕ → ImageFault → Type 0
-IsUnseen sets blocks set b NoSuchImage = is_among set sets ≡ false
-IsUnseen sets blocks set b NoSuchBlock = (is_among set sets ≡ true) × (blocks ≤ b)
+-- why no block is shown, of a volume of so many blocks that has images of these sets: the first cause that stands, none of which is a
+-- device's
+abbrev pub IsUnseen : List ℕ → ℕ → Option ℕ → ℕ → ImageFault → Type 0
+IsUnseen sets blocks set b NoSuchImage = is_there set sets ≡ false
+IsUnseen sets blocks set b NoSuchBlock = (is_there set sets ≡ true) × (blocks ≤ b)
 IsUnseen sets blocks set b Volume = ⊥
 IsUnseen sets blocks set b Area = ⊥
 
--- a block of an image is lent just where the device that has it lends: the area's, where an image has a copy, or else the volume's
-pub record IsLentBy {D : Type 0} (lending : D → Bool) (g : GroupValue D) (v set b : ℕ) (lent : Bool) : Type 0 where
-  pub from_slot : (slot : ℕ) → IsFirstCopy g.area.records v set b slot → lent ≡ lending g.area.device
-  pub from_volume : (d : D) → HasNoCopy g.area.records v set b → slice_get g.devices v ≡ Some d → lent ≡ lending d
+-- a block is lent just where the device that has it lends: the area's, where an image has a copy, or else the volume's
+pub record IsLentBy {D : Type 0} (lending : D → Bool) (g : GroupValue D) (v : ℕ) (set : Option ℕ) (b : ℕ) (lent : Bool) : Type 0 where
+  pub from_slot : (slot : ℕ) → IsInSlot g.area.records v set b slot → lent ≡ lending g.area.device
+  pub from_volume : (d : D) → IsInVolume g.area.records v set b → slice_get g.devices v ≡ Some d → lent ≡ lending d

@@ -81,6 +81,13 @@ impl<D: Device> Copies<D> {
         Ok(Copies { area, maps, pool })
     }
 
+    /// The area, as it is.
+    pub(crate) fn area(&self) -> &Area<D>
+        ensures { result.now ≡ self.now.area }
+    {
+        &self.area
+    }
+
     /// How many slots the area has.
     pub(crate) fn slots(&self) -> u32
         ensures slots { result ≡ length self.now.area.records }

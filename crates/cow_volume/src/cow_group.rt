@@ -9,7 +9,7 @@ ghost use Rattle.volume_device.specs.Blocks.{AreBlocks};
 ghost use Rattle.diff_map.specs.MapValue.{AreImages};
 ghost use Rattle.cow_volume.specs.GroupValue.{placed};
 ghost use Rattle.cow_volume.specs.StandsFor.{StandsFor};
-ghost use Rattle.cow_volume.specs.Calls.{HasCauseAt, HasImageCause, IsNow, IsSeen, IsShown, IsQuiet, IsUnfailed, IsWrite, IsDropped, IsRevert, StopsAfter, NeverFails, counted_as, IsEvicted, VolumeRose, history_at, changed_at, is_among, sets_at, blocks_at};
+ghost use Rattle.cow_volume.specs.Calls.{HasImageCause, IsSeen, IsQuiet, IsUnfailed, IsWrite, IsDropped, IsRevert, StopsAfter, NeverFails, counted_as, IsEvicted, VolumeRose, history_at, changed_at, is_there, sets_at, blocks_at};
 ghost use Rattle.cow_volume.specs.Parts.{IsLentBy, IsUnseen};
 ghost use Rattle.cow_volume.specs.Ending.{IsSync, IsTable};
 ghost use Rattle.cow_volume.specs.Resuming.{AllHaveImages, IsResumeFault, AreKept, NoneTell};
@@ -23,7 +23,7 @@ use crate::copying::{copy_block, put_block};
 use crate::ending::{flush_one, sync_all};
 use crate::image_fault::ImageFault;
 use crate::listing::list_going;
-use crate::reads::{has_image, lend_now, lend_shown, read_now, read_shared, read_shown};
+use crate::reads::{has_image, lend, read, read_shared};
 use crate::resume_fault::ResumeFault;
 use crate::revert_fault::RevertFault;
 use crate::reverts::{merge_image, revert};
@@ -123,6 +123,13 @@ impl<D: Device> CowGroup<D> {
         self.copies.volumes()
     }
 
+    /// The area, with the record of each slot.
+    pub fn area(&self) -> &Area<D>
+        ensures { result.now ≡ self.now.area }
+    {
+        self.copies.area()
+    }
+
     /// How many slots the area has.
     pub fn slots(&self) -> u32
         ensures { result ≡ length self.now.area.records }
@@ -202,61 +209,38 @@ impl<D: Device> CowGroup<D> {
         self.copies.add_image(v, set);
     }
 
-    /// Reads a block of a volume as it is into `out`, which after a failed read holds any bytes.
-    pub fn read_into(&mut self, v: u32, block: u32, out: &mut [u8]) -> Result<(), Cause>
-        requires volume { v < length self.old.area.volumes }
-        requires whole { length out.old ≡ BLOCK }
-        ensures in_range { OnOk result (block < blocks_at self.old v) }
-        ensures now { OnOk result (IsNow D.told self.old v block out.new) }
-        ensures same { OnOk result (IsUnfailed D.count self.old self.new) }
-        ensures cause { IfErr result (HasCauseAt D.count v block self.old self.new) }
-        ensures quiet { IsQuiet D.Device self.old self.new }
-    {
-        read_now(&mut self.devices, &self.copies, v, block, out)
-    }
-
-    /// Reads a block as the image of a set shows it into `out`, which after a failed read holds any bytes.
-    pub fn read_image_into(
+    /// Reads a block of a volume, as it is or as the image of a set shows it, into `out`, which after a failed read holds any bytes.
+    pub fn read_into(
         &mut self,
         v: u32,
-        set: u32,
+        set: Option<u32>,
         block: u32,
         out: &mut [u8],
     ) -> Result<(), ImageFault>
         requires volume { v < length self.old.area.volumes }
         requires whole { length out.old ≡ BLOCK }
-        ensures shown { OnOk result (IsShown D.told self.old v set block out.new) }
-        ensures image { OnOk result (is_among set (sets_at self.old v) ≡ true) }
+        ensures seen { OnOk result (IsSeen D.told self.old v set block out.new) }
+        ensures there { OnOk result (is_there set (sets_at self.old v) ≡ true) }
         ensures in_range { OnOk result (block < blocks_at self.old v) }
         ensures same { OnOk result (IsUnfailed D.count self.old self.new) }
         ensures cause { IfErr result (HasImageCause D.count v set block self.old self.new) }
         ensures quiet { IsQuiet D.Device self.old self.new }
     {
-        read_shown(&mut self.devices, &mut self.copies, v, set, block, out)
+        read(&mut self.devices, &mut self.copies, v, set, block, out)
     }
 
-    /// Lends a block of a volume as it is, in place. None where the volume's device does not lend.
-    pub fn lend_block(&self, v: u32, block: u32) -> Option<&[u8]>
-        requires volume { v < length self.now.area.volumes }
-        requires in_range { block < blocks_at self.now v }
-        ensures now { IfSome result (λ bytes. IsNow D.told self.now v block bytes.now) }
-        ensures whole { IfSome result (λ bytes. length bytes.now ≡ BLOCK) }
-        ensures lends { (d : D) → slice_get self.now.devices v ≡ Some d → is_some result ≡ D.lending d }
-    {
-        lend_now(&self.devices, &self.copies, v, block)
-    }
-
-    /// Lends a block as the image of a set shows it, in place. None where the device that has it does not lend.
-    pub fn lend_image(&self, v: u32, set: u32, block: u32) -> Result<Option<&[u8]>, ImageFault>
+    /// Lends a block of a volume, as it is or as the image of a set shows it, in place. None where the device that has it does not
+    /// lend.
+    pub fn lend(&self, v: u32, set: Option<u32>, block: u32) -> Result<Option<&[u8]>, ImageFault>
         requires { v < length self.now.area.volumes }
-        ensures shown { IfOk result (λ lent. IfSome lent (λ bytes. IsShown D.told self.now v set block bytes.now)) }
+        ensures seen { IfOk result (λ lent. IfSome lent (λ bytes. IsSeen D.told self.now v set block bytes.now)) }
         ensures whole { IfOk result (λ lent. IfSome lent (λ bytes. length bytes.now ≡ BLOCK)) }
-        ensures image { OnOk result (is_among set (sets_at self.now v) ≡ true) }
+        ensures there { OnOk result (is_there set (sets_at self.now v) ≡ true) }
         ensures in_range { OnOk result (block < blocks_at self.now v) }
         ensures lends { IfOk result (λ lent. IsLentBy D.lending self.now v set block (is_some lent)) }
         ensures unseen { IfErr result (IsUnseen (sets_at self.now v) (blocks_at self.now v) set block) }
     {
-        lend_shown(&self.devices, &self.copies, v, set, block)
+        lend(&self.devices, &self.copies, v, set, block)
     }
 
     /// Fills `out` with a block as it is, or as the image of a set shows it, while other threads may read too. False if the

@@ -159,10 +159,10 @@ impl<D: Device> CowVolume<D> {
         ensures stands { (h : History) → StandsForOne D.told self.old h → StandsForOne D.told self.new h }
     {
         let _valid = self.group.volumes();
-        if block >= self.group.blocks(0) {
-            return Err(Cause::NoSuchBlock);
+        match self.group.read_into(0, None, block, out) {
+            Ok(()) => Ok(()),
+            Err(fault) => Err(fault.cause()),
         }
-        self.group.read_into(0, block, out)
     }
 
     /// Reads a block as the image of a set shows it into `out`, which after a failed read holds any bytes.
@@ -182,8 +182,7 @@ impl<D: Device> CowVolume<D> {
         ensures stands { (h : History) → StandsForOne D.told self.old h → StandsForOne D.told self.new h }
     {
         let _valid = self.group.volumes();
-        self.look_for(set, block)?;
-        self.group.read_image_into(0, set, block, out)
+        self.group.read_into(0, Some(set), block, out)
     }
 
     /// Lends a block as it is, in place. None where the volume's device does not lend.
@@ -194,7 +193,10 @@ impl<D: Device> CowVolume<D> {
         ensures lends { (d : D) → slice_get self.now.devices 0 ≡ Some d → is_some result ≡ D.lending d }
     {
         let _valid = self.group.volumes();
-        self.group.lend_block(0, block)
+        let Ok(lent) = self.group.lend(0, None, block) else {
+            unreachable!();
+        };
+        lent
     }
 
     /// Lends a block as the image of a set shows it, in place. None where the device that has it does not lend.
@@ -204,11 +206,10 @@ impl<D: Device> CowVolume<D> {
         ensures shown { IfOk result (λ lent. IfSome lent (λ bytes. IsOneShown D.told self.now set block bytes.now)) }
         ensures whole { IfOk result (λ lent. IfSome lent (λ bytes. length bytes.now ≡ BLOCK)) }
         ensures lends { IfOk result (λ lent. IsOneLentBy D.lending self.now set block (is_some lent)) }
-        ensures unseen { IfErr result (IsUnseen (image_sets self.now) (blocks_of self.now) set block) }
+        ensures unseen { IfErr result (IsUnseen (image_sets self.now) (blocks_of self.now) (Some set) block) }
     {
         let _valid = self.group.volumes();
-        self.look_for(set, block)?;
-        self.group.lend_image(0, set, block)
+        self.group.lend(0, Some(set), block)
     }
 
     /// Writes a block. Where its old bytes need a slot for a copy and none is free, the oldest images go first, until one is. The
@@ -271,28 +272,6 @@ impl<D: Device> CowVolume<D> {
             unreachable!();
         };
         (device, area)
-    }
-
-    /// Whether an image of a set stands.
-    fn has_image(&self, set: u32) -> bool
-        ensures { result ≡ is_among set (image_sets self.now) }
-    {
-        self.group.images(0).contains(&set)
-    }
-
-    /// Looks whether the image of a set stands and the block is one of the volume's.
-    fn look_for(&self, set: u32, block: u32) -> Result<(), ImageFault>
-        ensures image { OnOk result (is_among set (image_sets self.now) ≡ true) }
-        ensures in_range { OnOk result (block < blocks_of self.now) }
-        ensures unseen { IfErr result (IsUnseen (image_sets self.now) (blocks_of self.now) set block) }
-    {
-        if !self.has_image(set) {
-            return Err(ImageFault::NoSuchImage);
-        }
-        if block >= self.blocks() {
-            return Err(ImageFault::NoSuchBlock);
-        }
-        Ok(())
     }
 }
 

@@ -1,14 +1,12 @@
 //! Reads of a volume as it is, and as an image shows it.
 
-ghost use Rattle.std.specs.Prelude.{◌≡◌, ◌<◌, ◌≤◌, ◌↔◌, true, Some, slice_get, length, map, is_some, is_err, IfOk, IfErr, IfSome, OnOk, IsNone};
-ghost use Rattle.cow_volume.specs.Changes.{IsFirstCopy, HasNoCopy};
-ghost use Rattle.cow_volume.specs.Calls.{HasCauseAt, HasImageCause, IsNow, IsSeen, IsShown, IsQuiet, IsUnfailed, is_among};
+ghost use Rattle.std.specs.Prelude.{◌≡◌, ◌<◌, ◌≤◌, ◌↔◌, true, length, map, is_some, is_err, IfOk, IfErr, IfSome, OnOk, IsNone};
+ghost use Rattle.cow_volume.specs.Changes.{IsInSlot, IsInVolume};
+ghost use Rattle.cow_volume.specs.Calls.{HasImageCause, IsSeen, IsQuiet, IsUnfailed, is_among, is_there};
 ghost use Rattle.cow_volume.specs.CopiesAfter.{images_on};
 ghost use Rattle.cow_volume.specs.Parts.{group_of, blocks_on, IsUnseen, IsLentBy};
-ghost use Rattle.cow_volume.specs.declared.cause.Cause.TheVariants.{NoSuchBlock};
 
 use crate::calling::{lend_device, read_device, read_device_shared};
-use crate::cause::Cause;
 use crate::copies::Copies;
 use crate::image_fault::ImageFault;
 use block_data::BLOCK;
@@ -38,46 +36,28 @@ pub(crate) fn has_image_near<D: Device>(copies: &Copies<D>, v: u32, set: u32, ne
     (near < sets.len() && sets[near] == set) || has_image(copies, v, set)
 }
 
-/// Reads a block of a volume as it is into `out`, which after a failed read holds any bytes.
-pub(crate) fn read_now<D: Device>(
-    devices: &mut Vec<D>,
+/// Where a block stands of a volume as it is, or as the image of a set shows it: the slot of its copy; None where the volume
+/// itself has it.
+fn find<D: Device>(
     copies: &Copies<D>,
     v: u32,
-    block: u32,
-    out: &mut [u8],
-) -> Result<(), Cause>
-    requires volume { v < length copies.now.area.volumes }
-    requires devices { map D.size devices.old.items ≡ copies.now.area.volumes }
-    requires whole { length out.old ≡ BLOCK }
-    ensures cause { IfErr result (HasCauseAt D.count v block (group_of devices.old.items copies.now) (group_of devices.new.items copies.now)) }
-    ensures in_range { OnOk result (block < blocks_on copies.now v) }
-    ensures now { OnOk result (IsNow D.told (group_of devices.old.items copies.now) v block out.new) }
-    ensures same { OnOk result (IsUnfailed D.count (group_of devices.old.items copies.now) (group_of devices.new.items copies.now)) }
-    ensures quiet { IsQuiet D.Device (group_of devices.old.items copies.now) (group_of devices.new.items copies.now) }
-{
-    if block >= copies.blocks(v) {
-        return Err(Cause::NoSuchBlock);
-    }
-    match read_device(devices, v, block, out) {
-        Ok(()) => Ok(()),
-        Err(_) => Err(Cause::Volume),
-    }
-}
-
-/// Where a block stands that the image of a set shows: the slot of its copy; None where the volume itself has it.
-fn find_shown<D: Device>(
-    copies: &Copies<D>,
-    v: u32,
-    set: u32,
+    set: Option<u32>,
     block: u32,
 ) -> Result<Option<u32>, ImageFault>
     requires volume { v < length copies.now.area.volumes }
-    ensures found { IfOk result (λ place. IfSome place (IsFirstCopy copies.now.area.records v set block)) }
-    ensures none { IfOk result (λ place. IsNone place → HasNoCopy copies.now.area.records v set block) }
-    ensures image { OnOk result (is_among set (images_on copies.now v) ≡ true) }
+    ensures found { IfOk result (λ place. IfSome place (IsInSlot copies.now.area.records v set block)) }
+    ensures within { IfOk result (λ place. IfSome place (λ slot. slot < length copies.now.area.records)) }
+    ensures none { IfOk result (λ place. IsNone place → IsInVolume copies.now.area.records v set block) }
+    ensures there { OnOk result (is_there set (images_on copies.now v) ≡ true) }
     ensures in_range { OnOk result (block < blocks_on copies.now v) }
     ensures unseen { IfErr result (IsUnseen (images_on copies.now v) (blocks_on copies.now v) set block) }
 {
+    let Some(set) = set else {
+        if block >= copies.blocks(v) {
+            return Err(ImageFault::NoSuchBlock);
+        }
+        return Ok(None);
+    };
     if !has_image(copies, v, set) {
         return Err(ImageFault::NoSuchImage);
     }
@@ -87,12 +67,12 @@ fn find_shown<D: Device>(
     Ok(copies.find(v, set, block))
 }
 
-/// Reads a block into `out` as the image of a set shows it. After a failed read `out` holds any bytes.
-pub(crate) fn read_shown<D: Device>(
+/// Reads a block into `out` as it is, or as the image of a set shows it. After a failed read `out` holds any bytes.
+pub(crate) fn read<D: Device>(
     devices: &mut Vec<D>,
     copies: &mut Copies<D>,
     v: u32,
-    set: u32,
+    set: Option<u32>,
     block: u32,
     out: &mut [u8],
 ) -> Result<(), ImageFault>
@@ -100,13 +80,13 @@ pub(crate) fn read_shown<D: Device>(
     requires devices { map D.size devices.old.items ≡ copies.old.area.volumes }
     requires whole { length out.old ≡ BLOCK }
     ensures cause { IfErr result (HasImageCause D.count v set block (group_of devices.old.items copies.old) (group_of devices.new.items copies.new)) }
-    ensures shown { OnOk result (IsShown D.told (group_of devices.old.items copies.old) v set block out.new) }
-    ensures image { OnOk result (is_among set (images_on copies.old v) ≡ true) }
+    ensures seen { OnOk result (IsSeen D.told (group_of devices.old.items copies.old) v set block out.new) }
+    ensures there { OnOk result (is_there set (images_on copies.old v) ≡ true) }
     ensures in_range { OnOk result (block < blocks_on copies.old v) }
     ensures same { OnOk result (IsUnfailed D.count (group_of devices.old.items copies.old) (group_of devices.new.items copies.new)) }
     ensures quiet { IsQuiet D.Device (group_of devices.old.items copies.old) (group_of devices.new.items copies.new) }
 {
-    match find_shown(copies, v, set, block)? {
+    match find(copies, v, set, block)? {
         Some(slot) => match copies.read_slot(slot, out) {
             Ok(()) => Ok(()),
             Err(_) => Err(ImageFault::Area),
@@ -118,42 +98,24 @@ pub(crate) fn read_shown<D: Device>(
     }
 }
 
-/// Lends a block of a volume as it is. None where the volume's device does not lend.
-pub(crate) fn lend_now<'a, D: Device>(
-    devices: &'a Vec<D>,
-    copies: &Copies<D>,
-    v: u32,
-    block: u32,
-) -> Option<&'a [u8]>
-    requires volume { v < length copies.now.area.volumes }
-    requires devices { map D.size devices.now.items ≡ copies.now.area.volumes }
-    requires in_range { block < blocks_on copies.now v }
-    ensures now { IfSome result (λ bytes. IsNow D.told (group_of devices.now.items copies.now) v block bytes.now) }
-    ensures whole { IfSome result (λ bytes. length bytes.now ≡ BLOCK) }
-    ensures lends { (d : D) → slice_get devices.now.items v ≡ Some d → is_some result ≡ D.lending d }
-{
-    let _facts = copies.blocks(v);
-    lend_device(devices, v, block)
-}
-
-/// Lends a block as the image of a set shows it. None where the device that has it does not lend.
-pub(crate) fn lend_shown<'a, D: Device>(
+/// Lends a block as it is, or as the image of a set shows it. None where the device that has it does not lend.
+pub(crate) fn lend<'a, D: Device>(
     devices: &'a Vec<D>,
     copies: &'a Copies<D>,
     v: u32,
-    set: u32,
+    set: Option<u32>,
     block: u32,
 ) -> Result<Option<&'a [u8]>, ImageFault>
     requires volume { v < length copies.now.area.volumes }
     requires devices { map D.size devices.now.items ≡ copies.now.area.volumes }
-    ensures shown { IfOk result (λ lent. IfSome lent (λ bytes. IsShown D.told (group_of devices.now.items copies.now) v set block bytes.now)) }
+    ensures seen { IfOk result (λ lent. IfSome lent (λ bytes. IsSeen D.told (group_of devices.now.items copies.now) v set block bytes.now)) }
     ensures whole { IfOk result (λ lent. IfSome lent (λ bytes. length bytes.now ≡ BLOCK)) }
-    ensures image { OnOk result (is_among set (images_on copies.now v) ≡ true) }
+    ensures there { OnOk result (is_there set (images_on copies.now v) ≡ true) }
     ensures in_range { OnOk result (block < blocks_on copies.now v) }
     ensures lends { IfOk result (λ lent. IsLentBy D.lending (group_of devices.now.items copies.now) v set block (is_some lent)) }
     ensures unseen { IfErr result (IsUnseen (images_on copies.now v) (blocks_on copies.now v) set block) }
 {
-    match find_shown(copies, v, set, block)? {
+    match find(copies, v, set, block)? {
         Some(slot) => Ok(copies.lend_slot(slot)),
         None => Ok(lend_device(devices, v, block)),
     }
@@ -175,10 +137,7 @@ pub(crate) fn read_shared<D: Device>(
     requires whole { length out.old ≡ BLOCK }
     ensures { result ≡ true → IsSeen D.told (group_of devices.now.items copies.now) v set block out.new }
 {
-    let Some(set) = set else {
-        return read_device_shared(devices, v, block, out);
-    };
-    match find_shown(copies, v, set, block) {
+    match find(copies, v, set, block) {
         Ok(Some(slot)) => copies.read_slot_shared(slot, out),
         Ok(None) => read_device_shared(devices, v, block, out),
         Err(_) => false,

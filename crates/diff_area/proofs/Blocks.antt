@@ -1,7 +1,8 @@
 -- Parts of blocks of one size that stand one after another.
-use Rattle.std.proofs.Common.{ℕ, zero, suc, ◌≡◌, ◌+◌, ◌-◌, ◌*◌, List, [], ◌∷◌, ◌++◌, length, take, drop, slice_index_or, refl, sym, ap, ◌∙◌, arith, All}
+use Rattle.std.proofs.Common.{ℕ, zero, suc, ◌≡◌, ◌+◌, ◌-◌, ◌*◌, List, [], ◌∷◌, ◌++◌, length, take, drop, slice_index_or, sym, ap, ◌∙◌, arith, All}
 use Rattle.std.specs.List.{concat}
 use Rattle.std.proofs.lemmas.List.{length-append, append-nil, drop_at, drop-drop}
+use Rattle.std.proofs.lemmas.Grind.{common_steps}
 use Rattle.diff_area.specs.Format.{part}
 
 -- blocks of n bytes
@@ -11,12 +12,7 @@ AreOf n (x ∷ xs) = (length x ≡ n) × AreOf n xs
 
 pub length-concat : (n : ℕ) (bs : List (List ℕ)) → AreOf n bs → length (concat bs) ≡ n * length bs
 length-concat n [] h = omega arith
-length-concat n (x ∷ xs) h =
-    let i = length-concat n xs h.1 in
-    let e = h.0 in
-    let a = length-append x (concat xs) in
-    let m : n * suc (length xs) ≡ n * length xs + n = grind arith in
-    omega arith
+length-concat n (x ∷ xs) h = let ih = length-concat n xs h.1 in grind (arith, common_steps, length-append)
 
 drop-front : (x ys : List ℕ) (n m : ℕ) → length x ≡ n → drop (m + n) (x ++ ys) ≡ drop m ys
 drop-front x ys n m h =
@@ -59,10 +55,7 @@ unfolding part
 part-blocks n a c at len bs h e f = grind (arith, drop-blocks, take-blocks, drop-whole)
 
 first_of_drop : (k : ℕ) (bs : List (List ℕ)) → concat (take 1 (drop k bs)) ≡ slice_index_or bs k []
-first_of_drop zero [] = refl
-first_of_drop zero (x ∷ xs) = append-nil x
-first_of_drop (suc k) [] = refl
-first_of_drop (suc k) (x ∷ xs) = first_of_drop k xs
+first_of_drop k bs = grind (arith, common_steps, append-nil)
 
 -- one block
 pub part-block : (n k at : ℕ) (bs : List (List ℕ)) → AreOf n bs → at ≡ n * k → part at n (concat bs) ≡ slice_index_or bs k []

@@ -2,6 +2,7 @@
 use Rattle.std.proofs.Common.{ℕ, ◌≡◌, ◌<◌, ◌≤◌, ◌+◌, ◌*◌, Bool, cond, List, [], ◌∷◌, length, take, drop, min, Option, Some, None, IfSome, slice_index_or, refl, sym, ap, ◌∙◌, arith}
 use Rattle.std.specs.List.{concat}
 use Rattle.std.proofs.lemmas.List.{take_min}
+use Rattle.std.proofs.lemmas.Grind.{common_steps}
 use Rattle.block_data.specs.declared.block_buf.TheConstants.{BLOCK}
 use Rattle.volume_device.specs.Blocks.{AreBlocks}
 use Rattle.write_history.specs.Slots.{Copy}
@@ -14,7 +15,7 @@ use Rattle.diff_area.specs.Places.{pages_for, blocks_for, place_of_slot}
 use Rattle.diff_area.specs.ReadBlocks.{AreRead, RoseFor}
 use Rattle.diff_area.specs.ReadHeader.{IsAccepted}
 use Rattle.diff_area.specs.ReadRows.{IsTable, IsTableRefused}
-use Rattle.diff_area.specs.Records.{is_free, AreVolumes, AreRecords}
+use Rattle.diff_area.specs.Records.{AreVolumes, AreRecords}
 use Rattle.diff_area.specs.Refusals.{IsBadHeader, IsRefused}
 use Rattle.diff_area.specs.declared.table_record.Record.{Record}
 use Rattle.diff_area.specs.declared.header.Header.{Header}
@@ -94,12 +95,7 @@ either b x y u v e f = grind arith
 -- the same slots hold the same copies
 pub same_copies : (slot : ℕ) (rows : List Record) (f g : ℕ → List ℕ) → ((i : ℕ) → slot ≤ i → i < slot + length rows → f i ≡ g i) → copies_from slot rows f ≡ copies_from slot rows g
 same_copies slot [] f g h = refl
-same_copies slot (r ∷ rs) f g h =
-    let rest = same_copies (slot + 1) rs f g (λ i a b. h i (omega arith) (omega arith)) in
-    let here = h slot (omega arith) (omega arith) in
-    either (is_free r) (copies_from (slot + 1) rs f) (copies_from (slot + 1) rs g) _ _ rest
-    (ap (λ x. record { volume = r.volume; set = r.set; block = r.block; bytes = x } ∷ copies_from (slot + 1) rs f) here
-    ∙ ap (λ xs. record { volume = r.volume; set = r.set; block = r.block; bytes = g slot } ∷ xs) rest)
+same_copies slot (r ∷ rs) f g h = let ih = same_copies (slot + 1) rs f g (λ i a b. h i (omega arith) (omega arith)) in grind (arith, common_steps, either)
 
 length-records_of : (bytes : List ℕ) → length (records_of bytes) ≡ slots_in (header_of bytes)
 length-records_of bytes = length-rows_in (layout_in (header_of bytes)) (table_of bytes) (slots_in (header_of bytes))

@@ -1,8 +1,10 @@
 -- The header that is written says what it should.
-use Rattle.std.proofs.Common.{ℕ, zero, suc, ◌≡◌, ◌<◌, ◌≤◌, ◌+◌, ◌-◌, ◌*◌, Bool, true, false, cond, ◌&&◌, ◌==◌, nat_le, List, [], ◌∷◌, ◌++◌, length, drop, map, replicate, Some, None, All, codes, refl, sym, ap, ◌∙◌, arith, lit<}
+use Rattle.std.proofs.Common.{ℕ, zero, suc, ◌≡◌, ◌<◌, ◌≤◌, ◌+◌, ◌-◌, ◌*◌, true, false, cond, ◌==◌, nat_le, List, [], ◌∷◌, ◌++◌, length, drop, map, replicate, Some, None, All, codes, refl, sym, ap, ◌∙◌, arith, lit<}
 use Rattle.std.specs.List.{find, flat_map, range_with_len}
 use Rattle.std.proofs.lemmas.Bool.Decides.{nat_tests}
 use Rattle.std.proofs.lemmas.List.{append_assoc, length-append, drop_at, drop-drop}
+use Rattle.std.proofs.lemmas.Grind.{common_steps}
+use Rattle.std.proofs.lemmas.Bool.{and_from}
 use Rattle.byteorder.specs.Endian.{little_number}
 use Rattle.byteorder.specs.Numbers.{little_number-reads_back, length-bytes_low_first}
 use Rattle.block_data.specs.Runs.{run_of}
@@ -121,9 +123,7 @@ from_is : (volumes : List ℕ) (records : List Record) → volumes_from (layout_
 from_is volumes records = ap volumes_from (says_layout volumes records)
 
 says_volume_count : (volumes : List ℕ) (records : List Record) → length volumes ≤ 128 → volume_count (header_bytes volumes records) ≡ length volumes
-says_volume_count volumes records few =
-    of_layout (layout_in (header_bytes volumes records)) 1 (number_at (header_bytes volumes records) 20) (says_layout volumes records)
-    ∙ says_count volumes records few
+says_volume_count volumes records few = grind (arith, of_layout, says_layout, says_count)
 
 are_thin : (ns : List ℕ) → All (λ blocks. (0 < blocks) × (blocks ≤ 65536)) ns → AreThin ns
 are_thin [] h = tt
@@ -139,11 +139,7 @@ says_volumes volumes records v =
 
 pub length-numbers : (ns : List ℕ) → length (flat_map number_bytes ns) ≡ 4 * length ns
 length-numbers [] = refl
-length-numbers (n ∷ ns) =
-    let a = length-append (number_bytes n) (flat_map number_bytes ns) in
-    let b = length-number_bytes n in
-    let c = length-numbers ns in
-    omega arith
+length-numbers (n ∷ ns) = let ih = length-numbers ns in grind (arith, common_steps, length-append, length-number_bytes)
 
 says_rest : (volumes : List ℕ) (records : List Record) → length volumes ≤ 128 → rest_in (header_bytes volumes records) ≡ rest_of volumes records
 unfolding rest_in
@@ -174,10 +170,6 @@ at_most a b h = grind (arith, nat_tests)
 equal : (a b : ℕ) → a ≡ b → (a == b) ≡ true
 equal a b h = grind (arith, nat_tests)
 
-both : (a b : Bool) → a ≡ true → b ≡ true → (a && b) ≡ true
-both true b h k = k
-both false b h k = h
-
 none_out : (ns : List ℕ) → All (λ blocks. (0 < blocks) × (blocks ≤ 65536)) ns → find is_out_of_range ns ≡ None
 none_out [] h = refl
 none_out (n ∷ ns) h =
@@ -185,7 +177,7 @@ none_out (n ∷ ns) h =
     ap (λ b. cond b (Some n) (find is_out_of_range ns)) (within n here.0 here.1) ∙ none_out ns (λ k d b. h (suc k) d (omega arith))
 
 do_fit : (size slots : ℕ) → slots ≤ 65536 → size ≡ BLOCK * blocks_for slots → fits size slots ≡ true
-do_fit size slots h e = both (nat_le slots 65536) (size == BLOCK * blocks_for slots) (at_most slots 65536 h) (equal size (BLOCK * blocks_for slots) e)
+do_fit size slots h e = and_from (nat_le slots 65536) (size == BLOCK * blocks_for slots) (at_most slots 65536 h) (equal size (BLOCK * blocks_for slots) e)
 
 begins : (rest : List ℕ) → has_magic (codes "VSSAREA1" ++ rest) ≡ true
 begins rest = refl
@@ -198,7 +190,7 @@ header_valid size volumes records v few e =
       magic = ap has_magic (parts volumes records) ∙ begins (number_bytes 2 ++ (number_bytes (length records) ++ (number_bytes (used_in records) ++ (number_bytes (length volumes) ++ (flat_map number_bytes volumes ++ rest_of volumes records)))));
       layout = ap is_layout (says_layout volumes records);
       slots = ap (fits size) (says_slots volumes records few) ∙ do_fit size (length records) few e;
-      volumes = ap is_volume_count (says_volume_count volumes records v.few) ∙ both (nat_le 1 (length volumes)) (nat_le (length volumes) 128) (at_most 1 (length volumes) v.some) (at_most (length volumes) 128 v.few);
+      volumes = ap is_volume_count (says_volume_count volumes records v.few) ∙ and_from (nat_le 1 (length volumes)) (nat_le (length volumes) 128) (at_most 1 (length volumes) v.some) (at_most (length volumes) 128 v.few);
       blocks = ap (find is_out_of_range) (says_volumes volumes records v) ∙ none_out volumes v.each;
       rest = ap (find is_nonzero) (says_rest volumes records v.few) ∙ rest_is_zeros volumes records;
     }

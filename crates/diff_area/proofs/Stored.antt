@@ -1,9 +1,10 @@
 -- Once the table is written, the device stands for the records and the slots.
-use Rattle.std.proofs.Common.{ℕ, zero, suc, ◌≡◌, ◌≤◌, ◌+◌, ◌*◌, List, [], ◌∷◌, ◌++◌, length, take, drop, map, Option, Some, None, IfSome, All, slice_index_or, option_map, codes, refl, sym, ap, subst, ◌∙◌, arith}
+use Rattle.std.proofs.Common.{ℕ, zero, suc, ◌≡◌, ◌≤◌, ◌+◌, ◌*◌, List, [], ◌∷◌, ◌++◌, length, take, drop, map, Option, IfSome, All, slice_index_or, option_map, codes, refl, sym, ap, subst, ◌∙◌, arith}
 use Rattle.std.specs.List.{concat, flat_map, range_with_len}
 use Rattle.std.specs.List.Sorted.{IsPermutation}
 use Rattle.std.proofs.lemmas.List.{length-append, length-drop, take_at}
 use Rattle.std.proofs.lemmas.List.FromFn.{length-map-range_with_len}
+use Rattle.std.proofs.lemmas.Grind.{common_steps}
 use Rattle.block_data.specs.declared.block_buf.TheConstants.{BLOCK}
 use Rattle.volume_device.specs.Blocks.{AreBlocks}
 use Rattle.write_history.specs.Slots.{Copy}
@@ -56,18 +57,13 @@ to_all n (x ∷ xs) h zero d b = h.0
 to_all n (x ∷ xs) h (suc k) d b = to_all n xs h.1 k d (omega arith)
 
 none : (n : ℕ) → drop {A = List ℕ} n [] ≡ []
-none zero = refl
-none (suc n) = refl
+none n = grind arith
 
 empty : (i : ℕ) (d : List ℕ) → slice_index_or [] i d ≡ slice_index_or [] (suc i) d
-empty zero d = refl
-empty (suc i) d = refl
+empty i d = grind arith
 
 past_first : (t bs : List (List ℕ)) (i : ℕ) (d : List ℕ) → length t ≤ i → slice_index_or (with_first t bs) i d ≡ slice_index_or bs i d
-past_first [] bs i d h = refl
-past_first (x ∷ t) bs zero d h = absurd (omega arith)
-past_first (x ∷ t) [] (suc i) d h = ap (λ z. slice_index_or (t ++ z) i d) (sym (none (length t))) ∙ past_first t [] i d (omega arith) ∙ empty i d
-past_first (x ∷ t) (b ∷ bs) (suc i) d h = past_first t bs i d (omega arith)
+past_first t bs i d h = grind (arith, common_steps, none, empty)
 
 new_blocks : (n : ℕ) (bs : List (List ℕ)) (volumes : List ℕ) (records : List Record) → AreBlocks n bs → n ≡ blocks_for (length records) → length volumes ≤ 128 → AreBlocks n (with_first (table_blocks volumes records) bs)
 new_blocks n bs volumes records w e few =
@@ -89,9 +85,7 @@ header_stands bs volumes records = refl
 
 pages_stand : (bs : List (List ℕ)) (volumes : List ℕ) (records : List Record) → take (pages_for (length records)) (drop 1 (with_first (table_blocks volumes records) bs)) ≡ map (page_bytes records) (range_with_len 0 (pages_for (length records)))
 unfolding table_blocks
-pages_stand bs volumes records =
-    let pages = map (page_bytes records) (range_with_len 0 (pages_for (length records))) in
-    take_at pages _ (pages_for (length records)) (length-map-range_with_len (page_bytes records) 0 (pages_for (length records)))
+pages_stand bs volumes records = grind (arith, take_at, length-map-range_with_len)
 
 header_is : (n : ℕ) (bs : List (List ℕ)) (volumes : List ℕ) (records : List Record) → AreOf BLOCK (with_first (table_blocks volumes records) bs) → header_of (concat (with_first (table_blocks volumes records) bs)) ≡ header_bytes volumes records
 header_is n bs volumes records w = part-block BLOCK 0 0 (with_first (table_blocks volumes records) bs) w refl ∙ header_stands bs volumes records
@@ -157,21 +151,9 @@ stands n bs volumes records copies w e v r held =
 
 -- what a device tells after the table was written
 pub stands_told : (told now : Option (List (List ℕ))) (n : ℕ) (volumes : List ℕ) (records : List Record) (copies : List Copy) → now ≡ option_map (with_first (table_blocks volumes records)) told → IfSome told (AreBlocks n) → n ≡ blocks_for (length records) → AreVolumes volumes → AreRecords volumes records → AreHeld told records copies → AreStored now copies
-stands_told None None n volumes records copies e w s v r h = tt
-stands_told None (Some cs) n volumes records copies e w s v r h = cc
-stands_told (Some bs) None n volumes records copies e w s v r h = tt
-stands_told (Some bs) (Some cs) n volumes records copies e w s v r h =
-    let same : with_first (table_blocks volumes records) bs ≡ cs = cc in
-    let P : List (List ℕ) → Type 0 = λ ds. StandsFor (concat ds) copies in
-    subst P same (stands n bs volumes records copies w s v r h)
+stands_told told now n volumes records copies e w s v r h = grind (arith, stands)
 
 -- and what is read of it
 pub read_told : (told now : Option (List (List ℕ))) (n : ℕ) (volumes : List ℕ) (records : List Record) → now ≡ option_map (with_first (table_blocks volumes records)) told → IfSome told (AreBlocks n)
     → n ≡ blocks_for (length records) → AreVolumes volumes → AreRecords volumes records → IfSome now (λ bs. IsReadFrom (concat bs) volumes records)
-read_told None None n volumes records e w s v r = tt
-read_told None (Some cs) n volumes records e w s v r = cc
-read_told (Some bs) None n volumes records e w s v r = tt
-read_told (Some bs) (Some cs) n volumes records e w s v r =
-    let same : with_first (table_blocks volumes records) bs ≡ cs = cc in
-    let P : List (List ℕ) → Type 0 = λ ds. IsReadFrom (concat ds) volumes records in
-    subst P same (read_back n bs volumes records w s v r)
+read_told told now n volumes records e w s v r = grind (arith, read_back)

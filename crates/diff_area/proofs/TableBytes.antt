@@ -1,10 +1,12 @@
 -- The table that is written says what it should.
-use Rattle.std.proofs.Common.{ℕ, zero, suc, ◌≡◌, ◌≢◌, ◌<◌, ◌≤◌, ◌+◌, ◌-◌, ◌*◌, ◌/◌, ◌%◌, ◌⊎◌, inl, inr, Bool, true, false, ◌&&◌, ◌||◌, not, ◌==◌, nat_lt, List, [], ◌∷◌, ◌++◌, length, take, drop, map, replicate, Some, slice_get, slice_index_or, refl, sym, ap, subst, ◌∙◌, arith, lit<}
+use Rattle.std.proofs.Common.{ℕ, zero, suc, ◌≡◌, ◌≢◌, ◌<◌, ◌≤◌, ◌+◌, ◌-◌, ◌*◌, ◌/◌, ◌%◌, ◌⊎◌, inl, inr, Bool, true, false, not, ◌==◌, nat_lt, List, [], ◌∷◌, ◌++◌, length, take, drop, map, replicate, Some, slice_get, slice_index_or, refl, sym, ap, subst, ◌∙◌, arith, lit<}
 use Rattle.std.specs.List.{concat, flat_map, list_any, range_with_len}
 use Rattle.std.proofs.lemmas.Bool.Decides.{nat_tests}
 use Rattle.std.proofs.lemmas.List.{append_assoc, append-nil, length-append, length-take, length-drop, length-replicate, drop-append-le, take-append-le, drop_at, drop-drop, take_at, take-replicate, drop-replicate, get_or-take, get_or-drop, get_or_default, same_lists}
 use Rattle.std.proofs.lemmas.List.Folds.{list_any_none}
 use Rattle.std.proofs.lemmas.List.Sums.{count_by-le-length}
+use Rattle.std.proofs.lemmas.Grind.{common_steps}
+use Rattle.std.proofs.lemmas.Bool.{and_from, or_right, false_from_ne_true}
 use Rattle.block_data.specs.Runs.{run_of}
 use Rattle.block_data.specs.declared.block_buf.TheConstants.{BLOCK}
 use Rattle.diff_area.specs.Format.{part, number_at, row_at, row_of, rows_in, has_zeros, is_used, is_same, is_sound, is_good, good_at, row_count}
@@ -84,9 +86,7 @@ later_part x rest at h =
 
 row_in_run : (rs : List Record) (j n : ℕ) → 16 * j + 16 ≤ 16 * length rs + n → part (16 * j) 16 (flat_map record_bytes rs ++ run_of n 0) ≡ record_bytes (slice_index_or rs j free)
 row_in_run [] j n h = in_zeros (16 * j) n (omega arith)
-row_in_run (r ∷ rs) zero n h =
-    ap (part 0 16) (append_assoc (record_bytes r) (flat_map record_bytes rs) (run_of n 0))
-    ∙ first_part (record_bytes r) (flat_map record_bytes rs ++ run_of n 0) (length-record_bytes r)
+row_in_run (r ∷ rs) zero n h = grind (arith, common_steps, append_assoc, first_part, length-record_bytes)
 row_in_run (r ∷ rs) (suc j) n h =
     let e : 16 * suc j ≡ 16 * j + 16 = omega arith in
     ap (λ k. part k 16 (record_bytes r ++ flat_map record_bytes rs ++ run_of n 0)) e
@@ -96,11 +96,7 @@ row_in_run (r ∷ rs) (suc j) n h =
 
 length-rows : (rs : List Record) → length (flat_map record_bytes rs) ≡ 16 * length rs
 length-rows [] = refl
-length-rows (r ∷ rs) =
-    let a = length-append (record_bytes r) (flat_map record_bytes rs) in
-    let b = length-record_bytes r in
-    let c = length-rows rs in
-    omega arith
+length-rows (r ∷ rs) = let ih = length-rows rs in grind (arith, common_steps, length-append, length-record_bytes)
 
 row_in_padded : (rs : List Record) (j : ℕ) → j < 1024 → length rs ≤ 1024 → part (16 * j) 16 (padded (flat_map record_bytes rs)) ≡ record_bytes (slice_index_or rs j free)
 unfolding padded
@@ -145,12 +141,7 @@ part_past x rest at len n h =
 -- a part of one of the pages
 part_of_pages : (n : ℕ) (f : ℕ → List ℕ) (a p k at len : ℕ) → ((i : ℕ) → length (f i) ≡ n) → k < p → at + len ≤ n → part (n * k + at) len (concat (map f (range_with_len a p))) ≡ part at len (f (a + k))
 part_of_pages n f a zero k at len h b c = absurd (omega arith)
-part_of_pages n f a (suc p) zero at len h b c =
-    let e : n * 0 + at ≡ at = omega arith in
-    let g : a ≡ a + 0 = omega arith in
-    ap (λ j. part j len (f a ++ concat (map f (range_with_len (a + 1) p)))) e
-    ∙ part_of_front (f a) (concat (map f (range_with_len (a + 1) p))) at len (let l = h a in omega arith)
-    ∙ ap (λ j. part at len (f j)) g
+part_of_pages n f a (suc p) zero at len h b c = grind (arith, common_steps, part_of_front)
 part_of_pages n f a (suc p) (suc k) at len h b c =
     let e : n * suc k + at ≡ n * k + at + n = grind arith in
     let g : a + 1 + k ≡ a + suc k = omega arith in
@@ -174,12 +165,6 @@ row_written records slot h =
     ∙ ap (λ s. record_bytes (slice_index_or records s free)) i
 
 -- ## all records
-
-both : (a b : Bool) → a ≡ true → b ≡ true → (a && b) ≡ true
-both a b h k = grind arith
-
-or_too : (a b : Bool) → b ≡ true → (a || b) ≡ true
-or_too a b h = grind arith
 
 lower : (a b : ℕ) → a < b → nat_lt a b ≡ true
 lower a b h = grind (arith, nat_tests)
@@ -224,7 +209,7 @@ sound_free volumes slots slot row z f = grind arith
 
 sound_used : (volumes : List ℕ) (slots slot : ℕ) (row : List ℕ) → has_zeros 2 row ≡ true → IsUsed volumes (row_of 2 row) → slot < slots → is_sound volumes slots 2 slot row ≡ true
 unfolding is_sound
-sound_used volumes slots slot row z u b = grind (arith, both, or_too, is_used_by, lower)
+sound_used volumes slots slot row z u b = grind (arith, and_from, or_right, is_used_by, lower)
 
 good_free : (volumes : List ℕ) (slots slot : ℕ) (row : List ℕ) (earlier : List Record) → is_sound volumes slots 2 slot row ≡ true → row_of 2 row ≡ free → is_good volumes slots 2 slot row earlier ≡ true
 unfolding is_good
@@ -237,15 +222,12 @@ good_used volumes slots slot row earlier s f = grind arith
 same_is : (r other : Record) → is_same r other ≡ true → r ≡ other
 same_is r other h = grind arith
 
-by_case : (b : Bool) → (b ≡ true → ⊥) → b ≡ false
-by_case b h = grind arith
-
 -- no earlier record is the one of this slot
 none_before : (volumes : List ℕ) (records : List Record) (slot : ℕ) (r : Record) → AreRecords volumes records → slot < row_count (length records) → slice_get records slot ≡ Some r → r ≢ free → list_any (is_same r) (rows_in 2 (table_bytes records) slot) ≡ false
 none_before volumes records slot r h b g n =
     let table = table_bytes records in
     let long = length-rows_in 2 table slot in
-    list_any_none (is_same r) (rows_in 2 table slot) (λ k d w. by_case (is_same r (slice_index_or (rows_in 2 table slot) k d)) (λ e.
+    list_any_none (is_same r) (rows_in 2 table slot) (λ k d w. false_from_ne_true (is_same r (slice_index_or (rows_in 2 table slot) k d)) (λ e.
     let is = get_or-rows_in 2 table slot k d (omega arith) ∙ says_row volumes records k h (omega arith) in
     let found = same_is r (slice_index_or (rows_in 2 table slot) k d) e ∙ is in
     elim (row_or_free records k) [
@@ -254,11 +236,7 @@ none_before volumes records slot r h b g n =
     ]))
 
 one_good : (volumes : List ℕ) (records : List Record) (slot : ℕ) (r : Record) (free_test : Bool) → AreRecords volumes records → slot < row_count (length records) → has_zeros 2 (row_at (table_bytes records) slot) ≡ true → row_of 2 (row_at (table_bytes records) slot) ≡ r → (slice_get records slot ≡ Some r) ⊎ (r ≡ free) → is_free r ≡ free_test → good_at volumes (length records) 2 (table_bytes records) slot ≡ true
-one_good volumes records slot r true h b z is s t =
-    let table = table_bytes records in
-    let row = row_at table slot in
-    let f = is ∙ free_is r t in
-    good_free volumes (length records) slot row (rows_in 2 table slot) (sound_free volumes (length records) slot row z f) f
+one_good volumes records slot r true h b z is s t = grind (arith, common_steps, free_is, good_free, sound_free)
 one_good volumes records slot r false h b z is (inl g) t =
     let table = table_bytes records in
     let row = row_at table slot in

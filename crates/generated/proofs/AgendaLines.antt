@@ -1,28 +1,13 @@
 -- The lines that begin an agenda, wait for one and end a session each lead a state from spot to spot.
 use Rattle.std.proofs.Common.{◌≡◌, ℕ, ◌≤◌, List, [], Option, Some, None, refl, true, false, ap, sym, ◌∙◌, subst, length, arith, inl, inr}
 use Rattle.std.specs.Prelude.{not, if◌then◌else◌}
-use Rattle.vss_names.specs.declared.vss_result.VssResult.{VssResult}
-use Rattle.vss_names.specs.declared.vss_result.VssResult.TheVariants.{AsyncCancelled, BadState}
-use Rattle.write_history.specs.declared.mark.Mark.{Mark}
+use Rattle.generated.proofs.Terms.{VssResult, AsyncCancelled, BadState, Mark, prepared, snapshot_begun, completing, released, takers, Stage, Started, Prepared}
+use Rattle.generated.proofs.Terms.{Done, Finished, check, Op, Prepare, Snapshot, Await, Complete, End, Plan, State, SetRow, in_progress, runs, followed}
+use Rattle.generated.proofs.Terms.{failed_in, await_last, closed, pending, refused, line, selected, volumes_of, has_no_volume, is_blocked, line_enabled}
+use Rattle.generated.proofs.Terms.{IsOrderly, Asked, Awaits, Prepares, Snapshots, Completes, Ends, IsAsked, Spot, Free, Stands, Waits, stage_next, volumes_next}
+use Rattle.generated.proofs.Terms.{spot_after, completes_sets, with_volumes}
 use Rattle.set_agenda.specs.declared.kind.Kind.TheVariants as kind
-use Rattle.set_agenda.specs.Course.{prepared, snapshot_begun, completing, released}
-use Rattle.component_doc.specs.Selection.{takers}
 use Rattle.requestor.specs.declared.session_call.SessionCall.TheVariants as call
-use Rattle.requestor.specs.declared.stage.Stage.{Stage}
-use Rattle.requestor.specs.declared.stage.Stage.TheVariants.{Started, Prepared, Done, Finished}
-use Rattle.requestor.specs.Check.{check}
-use Rattle.scenario.specs.declared.op.Op.{Op}
-use Rattle.scenario.specs.declared.op.Op.TheVariants.{Prepare, Snapshot, Await, Complete, End}
-use Rattle.scenario.specs.Plan.{Plan}
-use Rattle.vss_model.specs.State.{State, SetRow, in_progress}
-use Rattle.vss_model.specs.Ending.{followed, runs, failed_in}
-use Rattle.vss_model.specs.Sessions.{selected, volumes_of, has_no_volume, await_last, closed, pending}
-use Rattle.vss_model.specs.Images.{refused}
-use Rattle.vss_model.specs.Lines.{line}
-use Rattle.vss_model.specs.Acts.{is_blocked, line_enabled}
-use Rattle.vss_model.specs.Facts.{IsOrderly}
-use Rattle.generated.specs.Asked.{Asked, Awaits, Prepares, Snapshots, Completes, Ends, IsAsked}
-use Rattle.generated.specs.Spots.{Spot, Free, Stands, Waits, stage_next, volumes_next, spot_after, completes_sets, with_volumes}
 use Rattle.generated.proofs.CutRows.{HasCuts}
 use Rattle.generated.proofs.Standing.{session_at, IsPlace, IsAt}
 use Rattle.generated.proofs.Courses.{sound_prepared, sound_snapshot, sound_completing, sound_released}

@@ -1,32 +1,19 @@
 -- Nothing is evicted on the way, and each volume has what each lane wrote to it, in the lane's order.
 use Rattle.std.proofs.Common.{◌≡◌, ℕ, zero, suc, ◌<◌, List, [], ◌∷◌, ◌++◌, Option, Some, None, refl, Bool, true, false, ap, sym, ◌∙◌, ◌==◌, subst, length, take, arith, fold, map}
 use Rattle.std.specs.Prelude.{filter, slice_get, if◌then◌else◌}
-use Rattle.std.specs.List.{list_all}
-use Rattle.block_data.specs.Runs.{zeros}
-use Rattle.write_history.specs.declared.actor.Actor.{Actor}
-use Rattle.write_history.specs.declared.actor.Actor.TheVariants.{Lane, Writer, Advance, Idle}
-use Rattle.write_history.specs.declared.move_item.Move.{Move}
-use Rattle.write_history.specs.History.{Write, History, last_bytes, content}
-use Rattle.vss_names.specs.declared.order.Order.{Order}
+use Rattle.generated.proofs.Terms.{list_all, zeros, Actor, Lane, Writer, Advance, Idle, Move, Write, History, last_bytes, content, Order, Plan, LaneLine}
+use Rattle.generated.proofs.Terms.{lines_of, Event, Line, Provider, State, start, history_of, Act, after, state, order_of_writer, evicted, Run, begin, is_lane}
+use Rattle.generated.proofs.Terms.{cursor, next_line, line_event, answer_event, script_event, event_of, acts_if, acts_from, acts, after_event, moved, run_from}
+use Rattle.generated.proofs.Terms.{run, may_move, allows, is_legal_move, is_legal_from, is_legal, faults, cursor_more, cursor_same, true_not_false, IsSmooth}
+use Rattle.generated.proofs.Terms.{and_left, and_right, all_taken}
 use Rattle.writer_calls.specs.declared.answer.Answer.{Answer}
-use Rattle.scenario.specs.Plan.{Plan, LaneLine, lines_of}
-use Rattle.vss_model.specs.declared.event.Event.{Event}
-use Rattle.vss_model.specs.declared.event.Event.TheVariants.{Line, Provider, Idle as IdleEvent}
-use Rattle.vss_model.specs.State.{State, start, history_of}
-use Rattle.vss_model.specs.Acts.{Act, after, state, order_of_writer}
-use Rattle.vss_model.specs.Effects.{evicted}
-use Rattle.vss_model.specs.Trail.{Run, begin, is_lane, cursor, next_line, line_event, answer_event, script_event, event_of, acts_if, acts_from, acts, after_event, moved, run_from, run, may_move, allows, is_legal_move, is_legal_from, is_legal, faults}
-use Rattle.vss_model.proofs.GoesOn.{cursor_more, cursor_same}
-use Rattle.vss_model.proofs.Orderly.{true_not_false}
-use Rattle.generated.specs.Smooth.{IsSmooth}
+use Rattle.vss_model.specs.declared.event.Event.TheVariants.{Idle as IdleEvent}
 use Rattle.generated.proofs.Standing.{IsOnWay}
 use Rattle.generated.proofs.Puts.{puts_to, puts_of, puts_in}
 use Rattle.generated.proofs.Courses.{length_map}
 use Rattle.generated.proofs.Moves.{IsReached, IsBefore, on_move}
 use Rattle.generated.proofs.Runs.{clean_first, way_after, at_start}
 use Rattle.generated.proofs.Volumes.{IsGrownIf, move_grown}
-use Rattle.writer_meta.proofs.Laws.{and_left, and_right}
-use Rattle.vss_model.proofs.OneCut.{all_taken}
 
 -- ## nothing is evicted
 

@@ -1,25 +1,16 @@
 -- Courses that have not failed, over so many writers: what keeps them so, and that who is asked is one of these writers.
 use Rattle.std.proofs.Common.{◌≡◌, ℕ, ◌+◌, ◌<◌, List, [], ◌∷◌, ◌++◌, Option, Some, None, refl, Bool, true, false, ◌∙◌, ◌==◌, subst, length, arith}
 use Rattle.std.specs.Prelude.{map, filter, option_map, is_some, nat_lt, ◌&&◌, ◌||◌, not, if◌then◌else◌}
-use Rattle.std.specs.List.{list_all}
-use Rattle.std.proofs.lemmas.Bool.Decides.{nat_tests}
-use Rattle.std.proofs.lemmas.Bool.{and_from}
+use Rattle.generated.proofs.Terms.{list_all, nat_tests, and_from, Order, Ok, row_gathered, row_ended, Kind, Group, Member, Agenda, Open, is_orders, has_said}
+use Rattle.generated.proofs.Terms.{writers_at, members_of, waited_for, with_group, left_from, left, is_among, is_asked, order_if, open_order, all_say, Course}
+use Rattle.generated.proofs.Terms.{posted, member_if, members_from, settled_in, settled, begun, gathered, prepared, snapshot_begun, completing, has_row_failed}
+use Rattle.generated.proofs.Terms.{is_decisive, told, decided, answered_to, answered, worked, stepped, released, and_left, and_right, not_ok_of_ok}
 use Rattle.vss_names.specs.declared.level.Level.{Level}
-use Rattle.vss_names.specs.declared.order.Order.{Order}
 use Rattle.writer_state.specs.declared.said.Said.{Said}
-use Rattle.writer_state.specs.declared.said.Said.TheVariants.{Ok}
 use Rattle.writer_state.specs.declared.writer_row.WriterRow.{WriterRow}
-use Rattle.writer_state.specs.WriterRow.{row_gathered, row_ended}
-use Rattle.set_agenda.specs.declared.kind.Kind.{Kind}
 use Rattle.set_agenda.specs.declared.kind.Kind.TheVariants.{Gather, Prepare, Snapshot, Complete}
-use Rattle.set_agenda.specs.declared.group.Group.{Group}
 use Rattle.set_agenda.specs.declared.place.Place.{Place}
-use Rattle.set_agenda.specs.declared.member.Member.{Member}
-use Rattle.set_agenda.specs.Agenda.{Agenda, Open, is_orders, has_said, writers_at, members_of, waited_for, with_group, left_from, left, is_among, is_asked, order_if, open_order, all_say}
-use Rattle.set_agenda.specs.Course.{Course, posted, member_if, members_from, settled_in, settled, begun, gathered, prepared, snapshot_begun, completing, has_row_failed, is_decisive, told, decided, answered_to, answered, worked, stepped, released}
 use Rattle.generated.proofs.Sound.{are_below, AgendaBelow, IsSound}
-use Rattle.writer_meta.proofs.Laws.{and_left, and_right}
-use Rattle.vss_model.proofs.CourseCalls.{not_ok_of_ok}
 use Rattle.vss_model.proofs.FewTurns.{length-rows_where}
 
 -- ## who may be asked

@@ -1,28 +1,15 @@
 -- What courses say of the Cut step, and what of it an ending agenda leaves.
 use Rattle.std.proofs.Common.{◌≡◌, ℕ, ◌<◌, List, [], ◌∷◌, Option, Some, None, refl, Bool, true, false, ap, sym, ◌∙◌, length, arith, find, map}
 use Rattle.std.specs.Prelude.{option_map, is_some, cond, ◌&&◌, ◌||◌, if◌then◌else◌}
-use Rattle.std.specs.List.{list_all}
+use Rattle.generated.proofs.Terms.{list_all, and_from, or_right, Order, SetOutcome, Running, Ok, Kind, Cut, Member, Agenda, Open, plain, same_place, has_said}
+use Rattle.generated.proofs.Terms.{groups_left, left, open_place, open_order, next_member, is_asked, all_say, is_snapshot, Course, posted, settled_in, settled}
+use Rattle.generated.proofs.Terms.{begun, told, answered_to, answered, worked, stepped, Plan, State, SetRow, is_running, is_complete, in_progress, history_of}
+use Rattle.generated.proofs.Terms.{ending, row_settled, concluded, followed, OverButNewest, has_failed, find-settled_over, find-settled_running, true_not_false}
+use Rattle.generated.proofs.Terms.{and_left, and_right, not_ok_of_ok}
 use Rattle.std.proofs.lemmas.List.Folds.{list_any-append}
-use Rattle.std.proofs.lemmas.Bool.{and_from, or_right}
-use Rattle.vss_names.specs.declared.order.Order.{Order}
-use Rattle.vss_names.specs.declared.set_outcome.SetOutcome.{SetOutcome}
-use Rattle.vss_names.specs.declared.set_outcome.SetOutcome.TheVariants.{Running}
-use Rattle.writer_state.specs.declared.said.Said.TheVariants.{Ok}
-use Rattle.set_agenda.specs.declared.kind.Kind.{Kind}
-use Rattle.set_agenda.specs.declared.group.Group.TheVariants.{Cut}
-use Rattle.set_agenda.specs.declared.member.Member.{Member}
-use Rattle.set_agenda.specs.Agenda.{Agenda, Open, plain, same_place, has_said, groups_left, left, open_place, open_order, next_member, is_asked, all_say, is_snapshot}
-use Rattle.set_agenda.specs.Course.{Course, posted, settled_in, settled, begun, told, answered_to, answered, worked, stepped}
-use Rattle.scenario.specs.Plan.{Plan}
-use Rattle.vss_model.specs.State.{State, SetRow, is_running, is_complete, in_progress, history_of}
-use Rattle.vss_model.specs.Ending.{ending, row_settled, concluded, followed}
-use Rattle.vss_model.specs.Facts.{OverButNewest, has_failed}
-use Rattle.vss_model.proofs.Orderly.{find-settled_over, find-settled_running, true_not_false}
 use Rattle.generated.proofs.Sound.{IsSound}
 use Rattle.generated.proofs.CutRows.{is_cut, cuts_made, is_cut_or_open, said_by, IsNow, HasCuts}
 use Rattle.generated.proofs.Steps.{ending_ends, ending_runs}
-use Rattle.writer_meta.proofs.Laws.{and_left, and_right}
-use Rattle.vss_model.proofs.CourseCalls.{not_ok_of_ok}
 use Rattle.generated.proofs.Courses.{asked_of_order}
 
 -- ## rows that settle

@@ -1,32 +1,14 @@
 -- The lines before the lanes: they declare eight volumes and three writers.
 use Rattle.std.proofs.Common.{◌≡◌, ◌∙◌, ℕ, ◌+◌, ◌*◌, ◌<◌, Bool, true, false, List, [], ◌∷◌, ◌++◌, length, map, refl, ap, ap₂, sym, subst, arith, codes}
 use Rattle.std.specs.Prelude.{◌&&◌, not, nat_lt, nat_le, is_some, if◌then◌else◌, Result, Ok, Err}
-use Rattle.std.specs.List.{range_with_len}
-use Rattle.std.proofs.lemmas.Bool.Decides.{nat_tests}
-use Rattle.std.proofs.lemmas.List.{length-map, length_push, map_push}
-use Rattle.std.proofs.lemmas.List.FromFn.{map-range_with_len_more, length-range_with_len}
-use Rattle.writer_meta.specs.Metadata.{Meta}
+use Rattle.generated.proofs.Terms.{range_with_len, nat_tests, length-map, length_push, map_push, map-range_with_len_more, length-range_with_len, Meta}
+use Rattle.generated.proofs.Terms.{metadata_in, Reason, Misplaced, TooMany, Span, WriterPlan, LanePlan, span_from, bytes_of, fields_of, rest_fields, number_in}
+use Rattle.generated.proofs.Terms.{word_of, is_name, place_of, volume_named, writer_named, ◌>>=◌, number_field, SoFar, nothing, name_field, opening_of}
+use Rattle.generated.proofs.Terms.{own_volume_of, volume_of, own_row, has_volume_room, writer_of, described, document_field, writer_if, placed_row_of, row_of}
+use Rattle.generated.proofs.Terms.{has_lane, as_lines, declarations, shape_of, own_shape, system, database, web, both}
 use Rattle.writer_meta.specs.Refusal.{Refusal}
-use Rattle.writer_meta.specs.Document.{metadata_in}
-use Rattle.scenario.specs.declared.reason.Reason.{Reason}
-use Rattle.scenario.specs.declared.reason.Reason.TheVariants.{Misplaced, TooMany}
-use Rattle.scenario.specs.declared.span.Span.{Span}
-use Rattle.scenario.specs.Plan.{WriterPlan, LanePlan}
-use Rattle.scenario.specs.Lines.{span_from}
-use Rattle.scenario.specs.Fields.{bytes_of, fields_of, rest_fields}
-use Rattle.scenario.specs.Numbers.{number_in}
-use Rattle.scenario.specs.Words.{word_of}
-use Rattle.vss_names.specs.Names.{is_name}
-use Rattle.scenario.specs.Names.{place_of, volume_named, writer_named}
-use Rattle.scenario.specs.Ops.{◌>>=◌, number_field}
-use Rattle.scenario.specs.SoFar.{SoFar, nothing, after}
+use Rattle.scenario.specs.SoFar.{after}
 use Rattle.scenario.specs.SoFar as saying
-use Rattle.scenario.specs.Declarations.{name_field, opening_of, own_volume_of, volume_of, own_row, has_volume_room, writer_of, described, document_field, writer_if}
-use Rattle.scenario.specs.Entries.{placed_row_of, row_of, has_lane}
-use Rattle.generator_text.specs.Lines.{as_lines}
-use Rattle.generator_text.specs.ScenarioText.{declarations}
-use Rattle.generated.specs.Scenario.{shape_of, own_shape, system, database, web}
-use Rattle.vss_report.proofs.Joined.{both}
 use Rattle.generated.proofs.Words.{is_word, spans_at}
 use Rattle.generated.proofs.Reader.{Says, end_of, head_is, tail_is, Then, line_then, then_line}
 use Rattle.generated.proofs.Meant.{Declared, no_script, AreLanes, Run, IsSaid}

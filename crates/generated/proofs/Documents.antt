@@ -1,8 +1,10 @@
 -- What the documents of the generated scenario's writers say.
 use Rattle.std.proofs.Common.{◌≡◌, ℕ, true, List, [], Some, Ok, refl, codes, arith}
-use Rattle.std.specs.Str.{is_utf8, chars}
+use Rattle.generated.proofs.Terms.{is_utf8, chars, Data, boolean, number, string, array, object, unsigned, no_items, item, no_members, member, Meta, class_in}
+use Rattle.generated.proofs.Terms.{name_in, level_in, usage_in, source_in, freeze_timeout_in, components_in, kind_in, path_in, component_name_in, selectable_in}
+use Rattle.generated.proofs.Terms.{rows_of_part, part_in, parts_in, double_after, list_of_parts, unknown_in, rows_of_meta, meta_in, value_of_text, metadata_in}
+use Rattle.generated.proofs.Terms.{system, database, web}
 use lib.Utf8.{encode}
-use Rattle.serde_json.specs.Data.{Data, boolean, number, string, array, object, unsigned, no_items, item, no_members, member}
 use Rattle.serde_json.specs.Read.{read}
 use Rattle.serde_json.proofs.OnLiterals.{serde_json_on_literals}
 use Rattle.uuid.proofs.OnLiterals.{uuid_on_literals}
@@ -10,9 +12,6 @@ use Rattle.vss_names.specs.Level as level
 use Rattle.vss_names.specs.Usage as usage
 use Rattle.vss_names.specs.SourceKind as source
 use Rattle.vss_names.specs.ComponentType as kind
-use Rattle.writer_meta.specs.Metadata.{Meta}
-use Rattle.writer_meta.specs.Document.{class_in, name_in, level_in, usage_in, source_in, freeze_timeout_in, components_in, kind_in, path_in, component_name_in, selectable_in, rows_of_part, part_in, parts_in, double_after, list_of_parts, unknown_in, rows_of_meta, meta_in, value_of_text, metadata_in}
-use Rattle.generated.specs.Scenario.{system, database, web}
 
 -- a document of one component, all whose members but the time-out are said
 abbrev document_data : List ℕ → ℕ → ℕ → List ℕ → ℕ → ℕ → Data

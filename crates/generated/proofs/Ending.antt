@@ -1,24 +1,14 @@
 -- How a run of a generated scenario ends.
 use Rattle.std.proofs.Common.{◌≡◌, ℕ, zero, suc, ◌+◌, ◌/◌, ◌<◌, ◌≤◌, List, [], ◌∷◌, ◌++◌, Some, refl, Bool, true, false, ap, sym, ◌∙◌, ◌==◌, subst, length, take, arith, map}
 use Rattle.std.specs.Prelude.{filter, slice_get, nat_lt, if◌then◌else◌}
-use Rattle.std.specs.List.{list_all, range_with_len}
-use Rattle.block_data.specs.Runs.{zeros}
-use Rattle.write_history.specs.declared.move_item.Move.{Move}
-use Rattle.write_history.specs.History.{Write, last_bytes, content, contents}
-use Rattle.scenario.specs.declared.op.Op.{Op}
-use Rattle.scenario.specs.Plan.{Plan, LaneLine, lines_of}
-use Rattle.vss_model.specs.State.{history_of}
-use Rattle.vss_model.specs.Acts.{state}
-use Rattle.vss_model.specs.Trail.{run, acts, cursor, is_legal, is_complete, faults}
-use Rattle.vss_model.proofs.Appending.{state-run, moves-run}
+use Rattle.generated.proofs.Terms.{list_all, range_with_len, zeros, Move, Write, last_bytes, content, contents, Op, Plan, LaneLine, lines_of, history_of, state}
+use Rattle.generated.proofs.Terms.{run, acts, cursor, is_legal, faults, state-run, moves-run, Asked, IsAsked, AreAsked, four_sets, write_at, volume_at}
+use Rattle.generated.proofs.Terms.{block_at, shape_of, IsGenerated, writes_to, final_bytes, final_blocks}
+use Rattle.vss_model.specs.Trail.{is_complete}
 use Rattle.vss_model.proofs.Headline.{each_line_once}
-use Rattle.generated.specs.Asked.{Asked, IsAsked, AreAsked, four_sets}
-use Rattle.generated.specs.Writes.{write_at}
-use Rattle.generator_text.specs.Draws.{volume_at, block_at}
-use Rattle.generated.specs.Scenario.{shape_of, IsGenerated}
 use Rattle.generated.proofs.Puts.{put_if, puts_to, puts_in}
 use Rattle.generated.specs.EndsWell.{EndsWell}
-use Rattle.generator_text.specs.Contents.{write_of, writes_to, final_bytes, final_blocks}
+use Rattle.generated.specs.Contents.{write_of}
 use Rattle.generated.proofs.Contents.{no_eviction, is_of, IsApart, run_holds, content_of_owner}
 use Rattle.generated.proofs.Courses.{length_map}
 use Rattle.generated.proofs.Generated.{generated_smooth, few_lanes, no_lines}

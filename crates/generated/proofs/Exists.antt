@@ -1,14 +1,9 @@
 -- The plan that is written down is a generated scenario, so the laws speak of something.
 use Rattle.std.proofs.Common.{◌≡◌, ℕ, zero, suc, ◌+◌, ◌<◌, List, [], ◌∷◌, Option, Some, refl, ap, ◌∙◌, arith, map}
 use Rattle.std.specs.Prelude.{slice_get}
-use Rattle.std.specs.List.{range_with_len}
-use Rattle.scenario.specs.declared.op.Op.{Op}
-use Rattle.scenario.specs.Plan.{LaneLine, LanePlan, lines_in, lines_of}
-use Rattle.generated.specs.Asked.{Asked, IsAsked, AreAsked}
-use Rattle.generated.specs.Writes.{write_at}
-use Rattle.generator_text.specs.Draws.{volume_at, block_at, stamp_at, stands_at, drawn}
-use Rattle.generated.specs.Scenario.{IsGenerated}
-use Rattle.generated.specs.Plans.{op_of, line_of, writing_lane, plan_of}
+use Rattle.generated.proofs.Terms.{range_with_len, Op, LaneLine, LanePlan, lines_in, lines_of, Asked, IsAsked, AreAsked, write_at, volume_at, block_at}
+use Rattle.generated.proofs.Terms.{stamp_at, stands_at, drawn, IsGenerated, writing_lane, plan_of}
+use Rattle.generated.specs.Plans.{op_of, line_of}
 
 asked_op : (n : ℕ) (a : Asked) → IsAsked (plan_of n) a (op_of a)
 asked_op n a = grind arith

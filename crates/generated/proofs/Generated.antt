@@ -1,21 +1,10 @@
 -- A generated scenario is smooth.
 use Rattle.std.proofs.Common.{◌≡◌, ℕ, zero, suc, ◌+◌, ◌*◌, ◌/◌, ◌%◌, ◌<◌, ◌≤◌, List, [], ◌∷◌, Some, refl, Bool, true, false, ap, sym, ◌∙◌, subst, length, arith, map}
 use Rattle.std.specs.Prelude.{slice_get, All}
-use Rattle.std.specs.List.{list_all, range_with_len}
-use Rattle.std.proofs.Math.Nat.{mod-lt}
-use Rattle.writer_calls.specs.declared.scripted.Scripted.{Scripted}
-use Rattle.scenario.specs.declared.op.Op.{Op}
-use Rattle.scenario.specs.declared.volume_row.VolumeRow.{VolumeRow}
-use Rattle.scenario.specs.Plan.{Plan, WriterPlan, LanePlan, LaneLine, blocks_in, blocks_of, script_in, lines_in, lines_of}
-use Rattle.scenario.specs.Bounds.{IsOp}
-use Rattle.generated.specs.Asked.{four_sets}
-use Rattle.generated.specs.Writes.{write_at}
-use Rattle.generator_text.specs.Draws.{drawn, volume_at, block_at}
-use Rattle.generated.specs.Scenario.{Shape, shape_of, own_shape, IsGenerated}
-use Rattle.generated.specs.Spots.{Free, completes_sets}
-use Rattle.generated.specs.Smooth.{is_write, AreAlone, IsSmooth}
+use Rattle.generated.proofs.Terms.{list_all, range_with_len, mod-lt, Scripted, Op, VolumeRow, Plan, WriterPlan, LanePlan, LaneLine, blocks_in, blocks_of}
+use Rattle.generated.proofs.Terms.{script_in, lines_in, lines_of, IsOp, four_sets, write_at, drawn, volume_at, block_at, Shape, shape_of, own_shape}
+use Rattle.generated.proofs.Terms.{IsGenerated, Free, completes_sets, is_write, AreAlone, IsSmooth, and_left, and_right}
 use Rattle.generated.proofs.Courses.{length_map}
-use Rattle.writer_meta.proofs.Laws.{and_left, and_right}
 
 -- ## volumes
 

@@ -1,35 +1,17 @@
 -- Each move keeps the invariant of images.
 use Rattle.std.proofs.Common.{◌≡◌, ℕ, zero, suc, ◌+◌, ◌<◌, List, [], ◌∷◌, ◌++◌, Option, Some, None, refl, Bool, true, false, ap, sym, ◌∙◌, ◌==◌, subst, length, arith, inl, inr, find, map}
 use Rattle.std.specs.Prelude.{option_map, is_some, cond, slice_get, nat_lt, ◌&&◌, ◌||◌, not, if◌then◌else◌}
-use Rattle.std.specs.List.{list_all, range_with_len}
-use Rattle.std.proofs.lemmas.Bool.Decides.{nat_tests}
-use Rattle.std.proofs.lemmas.Bool.{and_from}
-use Rattle.vss_names.specs.declared.set_outcome.SetOutcome.TheVariants.{Running}
-use Rattle.writer_state.specs.declared.said.Said.TheVariants.{Ok as SaidOk}
-use Rattle.write_history.specs.declared.mark.Mark.{Mark}
-use Rattle.write_history.specs.declared.mark.Mark.TheVariants.{Clean}
-use Rattle.write_history.specs.History.{Write, Image, History}
+use Rattle.generated.proofs.Terms.{list_all, range_with_len, nat_tests, and_from, Running, Ok as SaidOk, Mark, Clean, Write, Image, History, Group, Orders}
+use Rattle.generated.proofs.Terms.{PreCommit, Flush, Hold, Cut, Commit, Release, PostCommit, Agenda, Open, plain, places, same_place, is_snapshot, groups_left}
+use Rattle.generated.proofs.Terms.{left_from, left, open_place, open_group, next_member, is_working, is_among, Course, answered as course_answered}
+use Rattle.generated.proofs.Terms.{stepped as course_stepped, Stage, Prepared, Plan, State, SetRow, is_running, is_complete, in_progress, history_in}
+use Rattle.generated.proofs.Terms.{history_of, left_now, runs, followed, cleared, with_room_if, put, write, cut_set, step_made, set_loses_image, volumes_of}
+use Rattle.generated.proofs.Terms.{with_cut, row_cut, cut_if, cut_each, order_of_writer, NumberedFrom, IsOfSession, IsOrderly, CutsNow, cuts, cut_is_open}
+use Rattle.generated.proofs.Terms.{cut_group, later_places, has_set, step_made_same, find-map, newest-map, true_not_false, same_changed, Place, Free, Stands}
+use Rattle.generated.proofs.Terms.{Waits, is_full, and_left, and_right, apart, found_above, apart_back}
 use Rattle.set_agenda.specs.declared.kind.Kind.TheVariants.{Snapshot}
-use Rattle.set_agenda.specs.declared.group.Group.{Group}
-use Rattle.set_agenda.specs.declared.group.Group.TheVariants.{Orders, PreCommit, Flush, Hold, Cut, Commit, Release, PostCommit}
-use Rattle.set_agenda.specs.Agenda.{Agenda, Open, plain, places, same_place, is_snapshot, groups_left, left_from, left, open_place, open_group, next_member, is_working, is_among}
-use Rattle.set_agenda.specs.Course.{Course, answered as course_answered, stepped as course_stepped}
-use Rattle.requestor.specs.declared.stage.Stage.{Stage}
-use Rattle.requestor.specs.declared.stage.Stage.TheVariants.{Prepared}
-use Rattle.scenario.specs.Plan.{Plan}
-use Rattle.vss_model.specs.State.{State, SetRow, is_running, is_complete, in_progress, history_in, history_of, left_now}
-use Rattle.vss_model.specs.Ending.{followed, runs}
-use Rattle.vss_model.specs.Images.{cleared, set_loses_image, with_room_if, put, write}
-use Rattle.vss_model.specs.Sessions.{volumes_of}
-use Rattle.vss_model.specs.Steps.{with_cut, row_cut, cut_if, cut_each, cut_set, step_made, answered, stepped}
-use Rattle.vss_model.specs.Acts.{order_of_writer}
+use Rattle.vss_model.proofs.StateForm.{answered, stepped}
 use Rattle.vss_model.specs.Cut.{is_cut_group}
-use Rattle.vss_model.specs.Facts.{NumberedFrom, IsOfSession, IsOrderly}
-use Rattle.vss_model.proofs.AtCut.{CutsNow, cuts, cut_is_open, cut_group, later_places}
-use Rattle.vss_model.proofs.CutStep.{has_set, step_made_same}
-use Rattle.vss_model.proofs.Orderly.{find-map, newest-map, true_not_false}
-use Rattle.vss_model.proofs.OrderlyActs.{same_changed}
-use Rattle.generated.specs.Spots.{Place, Free, Stands, Waits, is_full}
 use Rattle.generated.proofs.Sound.{IsSound}
 use Rattle.generated.proofs.Standing.{IsStage, IsPlace, IsAt}
 use Rattle.generated.proofs.CutRows.{is_cut, cuts_made, is_cut_or_open, said_by, IsNow, HasCuts}
@@ -40,8 +22,6 @@ use Rattle.generated.proofs.Moves.{IsReached, orderly_now, below_range}
 use Rattle.generated.proofs.Room.{no_set_loses}
 use Rattle.generated.proofs.Volumes.{images_change}
 use Rattle.generated.proofs.Ways.{runs_of_order, runs_of_step}
-use Rattle.writer_meta.proofs.Laws.{and_left, and_right}
-use Rattle.vss_model.proofs.Rows.{apart, found_above, apart_back}
 use Rattle.vss_model.proofs.FlushFails.{outcome_in}
 
 -- ## writes of other lanes

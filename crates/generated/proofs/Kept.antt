@@ -1,38 +1,16 @@
 -- At the end every set's image is kept on every volume.
 use Rattle.std.proofs.Common.{◌≡◌, ℕ, zero, suc, ◌+◌, ◌<◌, ◌≤◌, List, [], ◌∷◌, ◌++◌, Option, Some, None, refl, Bool, true, false, ap, sym, ◌∙◌, ◌==◌, subst, length, drop, arith, map}
 use Rattle.std.specs.Prelude.{is_some, cond, filter, slice_get, nat_le, ◌&&◌, ◌||◌, not, if◌then◌else◌}
-use Rattle.std.specs.List.{list_all, list_any}
-use Rattle.vss_names.specs.declared.order.Order.{Order}
-use Rattle.write_history.specs.declared.actor.Actor.{Actor}
-use Rattle.write_history.specs.declared.actor.Actor.TheVariants.{Lane, Writer, Advance, Idle}
-use Rattle.write_history.specs.declared.mark.Mark.{Mark}
-use Rattle.write_history.specs.declared.mark.Mark.TheVariants.{Clean}
-use Rattle.write_history.specs.declared.move_item.Move.{Move}
-use Rattle.write_history.specs.History.{Image, sets_of, fresh, AreInTime}
+use Rattle.generated.proofs.Terms.{list_all, list_any, Order, Actor, Lane, Writer, Advance, Idle, Mark, Clean, Move, Image, sets_of, fresh, AreInTime, Scripted}
+use Rattle.generated.proofs.Terms.{scripted_answer, is_asking, sent, Op, Writes, Plan, LaneLine, lines_of, IsOp, IsRangedBy, line_of, Event, Line}
+use Rattle.generated.proofs.Terms.{Answer as AnswerEvent, Provider, State, SetRow, is_complete, kept, history_in, history_of, left_now, does, line, happens}
+use Rattle.generated.proofs.Terms.{order_of_writer, line_enabled, enabled, after, state, Run, begin, cursor, next_line, line_event, answer_event, script_event}
+use Rattle.generated.proofs.Terms.{event_of, act_of, acts, after_event, moved, run_from, run, event_enabled, none_can_act, may_move, allows, is_legal_move}
+use Rattle.generated.proofs.Terms.{is_legal_from, is_legal, faults, NumberedFrom, AreLive, is_live, has_failed, state-run, images_in_time, orderly, Asked}
+use Rattle.generated.proofs.Terms.{AreAsked, Spot, spot_after, completes_sets, is_full, IsSmooth, writes, is_write, and_left, and_right, live_at}
 use Rattle.writer_calls.specs.declared.answer.Answer.TheVariants.{Ok}
-use Rattle.writer_calls.specs.declared.scripted.Scripted.{Scripted}
-use Rattle.writer_calls.specs.Script.{scripted_answer}
-use Rattle.set_agenda.specs.Agenda.{is_asking}
-use Rattle.set_agenda.specs.Course.{sent}
-use Rattle.scenario.specs.declared.op.Op.{Op}
 use Rattle.scenario.specs.declared.line.Line.{Line as Does}
-use Rattle.scenario.specs.declared.line.Line.TheVariants.{Writes}
-use Rattle.scenario.specs.Plan.{Plan, LaneLine, lines_of}
-use Rattle.scenario.specs.Bounds.{IsOp, IsRangedBy}
-use Rattle.scenario.specs.Calls.{line_of}
-use Rattle.vss_model.specs.declared.event.Event.{Event}
-use Rattle.vss_model.specs.declared.event.Event.TheVariants.{Line, Answer as AnswerEvent, Provider}
-use Rattle.vss_model.specs.State.{State, SetRow, is_complete, kept, history_in, history_of, left_now}
-use Rattle.vss_model.specs.Lines.{does, line}
-use Rattle.vss_model.specs.Acts.{order_of_writer, line_enabled, enabled, happens, after, state}
-use Rattle.vss_model.specs.Trail.{Run, begin, cursor, next_line, line_event, answer_event, script_event, event_of, act_of, acts, after_event, moved, run_from, run, event_enabled, none_can_act, may_move, allows, is_legal_move, is_legal_from, is_legal, is_complete as is_complete_trail, faults}
-use Rattle.vss_model.specs.Facts.{NumberedFrom, AreLive, is_live, has_failed}
-use Rattle.vss_model.proofs.Appending.{state-run}
-use Rattle.vss_model.proofs.OneCut.{images_in_time}
-use Rattle.vss_model.proofs.OrderlyActs.{orderly}
-use Rattle.generated.specs.Asked.{Asked, AreAsked}
-use Rattle.generated.specs.Spots.{Spot, spot_after, completes_sets, is_full}
-use Rattle.generated.specs.Smooth.{IsSmooth, writes, is_write}
+use Rattle.vss_model.specs.Trail.{is_complete as is_complete_trail}
 use Rattle.generated.proofs.Standing.{IsAt, IsOnWay}
 use Rattle.generated.proofs.CutRows.{is_cut, cuts_made, is_cut_or_open, HasCuts}
 use Rattle.generated.proofs.Courses.{length_map}
@@ -43,8 +21,6 @@ use Rattle.generated.proofs.Requests.{requests}
 use Rattle.generated.proofs.Room.{few_images, live_within}
 use Rattle.generated.proofs.Runs.{clean_first, way_after, at_start, smooth_runs}
 use Rattle.generated.proofs.Volumes.{IsGrownIf, move_grown, cleared_same}
-use Rattle.writer_meta.proofs.Laws.{and_left, and_right}
-use Rattle.vss_model.proofs.Failures.{live_at}
 
 -- ## every move keeps it
 

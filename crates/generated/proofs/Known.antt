@@ -1,30 +1,13 @@
 -- What is known of a state before a line of the lane that makes the sets, and what that lane's lines need of it.
 use Rattle.std.proofs.Common.{◌≡◌, ℕ, ◌+◌, ◌<◌, ◌≤◌, List, [], ◌∷◌, ◌++◌, Option, Some, None, refl, Bool, true, false, ap, sym, ◌∙◌, subst, length, arith, map}
 use Rattle.std.specs.Prelude.{option_map, is_some, cond, ◌&&◌}
-use Rattle.std.specs.List.{list_all}
-use Rattle.std.proofs.lemmas.Bool.{and_from}
-use Rattle.vss_names.specs.declared.set_outcome.SetOutcome.{SetOutcome}
-use Rattle.vss_names.specs.declared.set_outcome.SetOutcome.TheVariants.{Running}
-use Rattle.write_history.specs.declared.mark.Mark.{Mark}
-use Rattle.set_agenda.specs.Agenda.{Agenda}
-use Rattle.set_agenda.specs.Course.{Course}
+use Rattle.generated.proofs.Terms.{list_all, and_from, SetOutcome, Running, Mark, Agenda, Course, Stage, Session, makes_set, check, Op, Plan, State, SetRow}
+use Rattle.generated.proofs.Terms.{in_progress, history_of, runs, session_line, called, line, is_early, IsOfSession, IsOrderly, Asked, Spot, completes_sets}
+use Rattle.generated.proofs.Terms.{and_left, and_right}
 use Rattle.requestor.specs.declared.session_call.SessionCall.{SessionCall}
 use Rattle.requestor.specs.declared.verdict.Verdict.TheVariants.{Go}
-use Rattle.requestor.specs.declared.stage.Stage.{Stage}
-use Rattle.requestor.specs.Session.{Session, makes_set}
-use Rattle.requestor.specs.Check.{check}
-use Rattle.scenario.specs.declared.op.Op.{Op}
-use Rattle.scenario.specs.Plan.{Plan}
-use Rattle.vss_model.specs.State.{State, SetRow, in_progress, history_of}
-use Rattle.vss_model.specs.Ending.{runs}
-use Rattle.vss_model.specs.Sessions.{session_line}
-use Rattle.vss_model.specs.Lines.{called, line}
-use Rattle.vss_model.specs.Facts.{is_early, IsOfSession, IsOrderly}
-use Rattle.generated.specs.Asked.{Asked}
-use Rattle.generated.specs.Spots.{Spot, completes_sets}
 use Rattle.generated.proofs.CutRows.{is_cut, cuts_made, is_cut_or_open, said_by, IsNow, HasCuts}
 use Rattle.generated.proofs.Standing.{session_at, IsIn, IsAt}
-use Rattle.writer_meta.proofs.Laws.{and_left, and_right}
 
 -- what is known of a state and the one after it
 pub record IsKnown (n k : ℕ) (st next : State) : Type 0 where

@@ -1,23 +1,15 @@
 -- The lines of lanes: one whose fields make an operation adds it to the lane that began last, and so do many, one after another.
 use Rattle.std.proofs.Common.{◌≡◌, ◌∙◌, ℕ, suc, ◌+◌, ◌<◌, ◌≤◌, Bool, true, false, List, [], ◌∷◌, length, map, Some, refl, ap, ap₂, sym, subst, arith}
 use Rattle.std.specs.Prelude.{◌==◌, ◌&&◌, ◌||◌, not, cond, nat_lt, if◌then◌else◌, Result, Ok, Err}
-use Rattle.std.specs.List.{list_all}
-use Rattle.scenario.specs.declared.op.Op.{Op}
-use Rattle.scenario.specs.declared.reason.Reason.{Reason}
-use Rattle.scenario.specs.declared.reason.Reason.TheVariants.{Misplaced, TooMany}
-use Rattle.scenario.specs.Plan.{LaneLine}
-use Rattle.scenario.specs.Bounds.{begins_agenda}
-use Rattle.scenario.specs.Fields.{bytes_of, fields_of, fields_for}
-use Rattle.scenario.specs.Words.{name_of, word_of}
-use Rattle.scenario.specs.Ops.{◌>>=◌, op_of}
-use Rattle.scenario.specs.SoFar.{SoFar, after, line_count, agenda_count}
+use Rattle.generated.proofs.Terms.{list_all, Op, Reason, Misplaced, TooMany, LaneLine, begins_agenda, bytes_of, fields_of, fields_for, name_of, word_of, ◌>>=◌}
+use Rattle.generated.proofs.Terms.{op_of, SoFar, line_count, agenda_count, may_stand, has_line_room, row_of, placed_row_of, first_of_both, second_of_both}
+use Rattle.generated.proofs.Terms.{lines_more as count_with}
+use Rattle.scenario.specs.SoFar.{after}
 use Rattle.scenario.specs.SoFar as saying
-use Rattle.scenario.specs.Entries.{may_stand, has_line_room, line_of, row_of, placed_row_of}
-use Rattle.vss_report.proofs.Joined.{first_of_both, second_of_both}
+use Rattle.scenario.specs.Entries.{line_of}
 use Rattle.generated.proofs.Words.{are_words, spans_at}
 use Rattle.generated.proofs.Reader.{Says, end_of, Then, line_then, then_line}
 use Rattle.generated.proofs.Meant.{Declared, IsDeclared, Meaning, IsMeant, begins, begins_as, LaneMeant, lines_more, lanes_count, lanes_with, agendas_with, Run, IsSaid, still_declared, with_meant, with_nothing, begins_cons, with_first}
-use Rattle.scenario.proofs.Changes.{lines_more as count_with}
 use Rattle.generated.proofs.Courses.{less_is}
 
 -- ## words and fields, which the reader's crate keeps to itself

@@ -1,27 +1,12 @@
 -- The lanes that write, one after another.
 use Rattle.std.proofs.Common.{◌≡◌, ◌∙◌, ℕ, suc, ◌+◌, ◌*◌, ◌<◌, ◌≤◌, Bool, true, false, List, [], ◌∷◌, ◌++◌, length, map, Option, Some, None, refl, ap, ap₂, sym, subst, arith, codes, append_assoc, length-append}
 use Rattle.std.specs.Prelude.{◌&&◌, not, nat_lt, is_some, ok_or, if◌then◌else◌, Result, Ok, Err}
-use Rattle.std.specs.List.{flat_map}
-use Rattle.std.specs.Str.{bytes_eq}
-use Rattle.std.specs.Fmt.{decimal}
-use Rattle.std.proofs.lemmas.Fmt.{decimal_digit, decimal_step}
-use Rattle.std.proofs.lemmas.List.{length-map, map_push}
-use Rattle.std.proofs.lemmas.Bool.Decides.{nat_tests}
-use Rattle.scenario.specs.declared.reason.Reason.{Reason}
-use Rattle.scenario.specs.declared.reason.Reason.TheVariants.{Misplaced, UnknownName, UnknownWord}
-use Rattle.scenario.specs.declared.span.Span.{Span}
-use Rattle.scenario.specs.Lines.{span_from}
-use Rattle.scenario.specs.Fields.{bytes_of, fields_of}
-use Rattle.scenario.specs.Words.{word_of}
-use Rattle.vss_names.specs.Names.{is_name}
-use Rattle.scenario.specs.Names.{place_of, lane_named, writer_named}
-use Rattle.scenario.specs.Ops.{◌>>=◌, writer_field}
-use Rattle.scenario.specs.SoFar.{SoFar, after}
+use Rattle.generated.proofs.Terms.{flat_map, bytes_eq, decimal, decimal_digit, decimal_step, length-map, map_push, nat_tests, Reason, Misplaced, UnknownName}
+use Rattle.generated.proofs.Terms.{UnknownWord, Span, span_from, bytes_of, fields_of, word_of, is_name, place_of, lane_named, writer_named, ◌>>=◌, writer_field}
+use Rattle.generated.proofs.Terms.{SoFar, name_field, free_lane_of, acting_lane_of, lane_of, lane_if, placed_row_of, row_of, acting, lane_text, writes_text}
+use Rattle.generated.proofs.Terms.{first_of_both, second_of_both}
+use Rattle.scenario.specs.SoFar.{after}
 use Rattle.scenario.specs.SoFar as saying
-use Rattle.scenario.specs.Declarations.{name_field, free_lane_of, acting_lane_of, lane_of, lane_if}
-use Rattle.scenario.specs.Entries.{placed_row_of, row_of}
-use Rattle.generator_text.specs.ScenarioText.{acting, lane_text, writes_text}
-use Rattle.vss_report.proofs.Joined.{first_of_both, second_of_both}
 use Rattle.generated.proofs.Words.{is_word, spans_at}
 use Rattle.generated.proofs.Reader.{Says, end_of, head_is, tail_is, Then, line_then, then_line, same_rest}
 use Rattle.generated.proofs.Meant.{Declared, LaneMeant, names_meant, lanes_names, lanes_snoc, count_new, agendas_new, Run, IsSaid, still_declared, with_meant, with_lane, into_last}

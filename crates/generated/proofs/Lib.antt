@@ -1,3 +1,4 @@
+pub mod Terms
 pub mod Sound
 pub mod Standing
 pub mod CutRows
@@ -31,3 +32,6 @@ pub mod WriteLines
 pub mod Lanes
 pub mod WholeTexts
 pub mod Short
+pub mod Drawing
+pub mod Ranges
+pub mod LastWrites

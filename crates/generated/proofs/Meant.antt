@@ -1,20 +1,10 @@
 -- What the lines of the generated text mean, apart from where its names stand.
 use Rattle.std.proofs.Common.{◌≡◌, ◌∙◌, ℕ, zero, suc, ◌+◌, ◌*◌, Bool, true, false, List, [], ◌∷◌, ◌++◌, length, map, Option, Some, None, refl, ap, ap₂, arith, append_assoc, append-nil, codes, ◌<◌}
 use Rattle.std.specs.Prelude.{◌&&◌, ◌||◌, not, cond, count_by, slice_get}
-use Rattle.std.specs.List.{range_with_len, list_any}
-use Rattle.std.proofs.lemmas.List.Sums.{sum_by-cons, sum_by_push}
-use Rattle.writer_calls.specs.declared.scripted.Scripted.{Scripted}
-use Rattle.writer_meta.specs.Metadata.{Meta}
-use Rattle.scenario.specs.declared.op.Op.{Op}
-use Rattle.scenario.specs.declared.op.Op.TheVariants.{Component}
-use Rattle.scenario.specs.declared.span.Span.{Span}
-use Rattle.scenario.specs.Plan.{WriterPlan, LanePlan, LaneLine}
-use Rattle.scenario.specs.Fields.{bytes_of}
-use Rattle.scenario.specs.Bounds.{begins_agenda, agenda_lines, is_begin, is_end, has_end, ends_sessions}
-use Rattle.scenario.specs.Names.{volume_names, writer_names, lane_names}
-use Rattle.scenario.specs.SoFar.{SoFar, with_line, line_count, agenda_count, closed, closed_lane, implied_end}
-use Rattle.generated.specs.Scenario.{shape_of, own_shape}
-use Rattle.scenario.proofs.Changes.{lines_cons, agendas_cons}
+use Rattle.generated.proofs.Terms.{range_with_len, list_any, sum_by-cons, sum_by_push, Scripted, Meta, Op, Component, Span, WriterPlan, LanePlan, LaneLine}
+use Rattle.generated.proofs.Terms.{bytes_of, begins_agenda, agenda_lines, is_begin, is_end, has_end, ends_sessions, volume_names, writer_names, lane_names}
+use Rattle.generated.proofs.Terms.{SoFar, with_line, line_count, agenda_count, closed_lane, implied_end, shape_of, own_shape, lines_cons, agendas_cons}
+use Rattle.scenario.specs.SoFar.{closed}
 
 -- ## what is declared
 

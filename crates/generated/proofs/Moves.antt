@@ -1,41 +1,17 @@
 -- One move of a legal trail without faults keeps a run on its way, and nobody idles.
 use Rattle.std.proofs.Common.{◌≡◌, ℕ, zero, suc, ◌+◌, ◌<◌, ◌≤◌, List, [], ◌∷◌, ◌++◌, Option, Some, None, refl, Bool, true, false, ap, sym, ◌∙◌, subst, length, drop, arith, inl, inr}
 use Rattle.std.specs.Prelude.{is_some, nat_lt, nat_le, slice_get, ◌⊎◌, ◌&&◌, not, All}
-use Rattle.std.specs.List.{list_all, range_with_len}
-use Rattle.std.proofs.lemmas.Bool.Decides.{nat_tests}
-use Rattle.vss_names.specs.declared.order.Order.{Order}
-use Rattle.write_history.specs.declared.actor.Actor.{Actor}
-use Rattle.write_history.specs.declared.actor.Actor.TheVariants.{Lane, Writer, Advance, Idle}
-use Rattle.write_history.specs.declared.mark.Mark.{Mark}
-use Rattle.write_history.specs.declared.mark.Mark.TheVariants.{Clean}
-use Rattle.write_history.specs.declared.move_item.Move.{Move}
+use Rattle.generated.proofs.Terms.{list_all, range_with_len, nat_tests, Order, Actor, Lane, Writer, Advance, Idle, Mark, Clean, Move, Scripted, scripted_answer}
+use Rattle.generated.proofs.Terms.{left, next_member, is_asking, is_working, sent, Op, Writes, Plan, LaneLine, lines_of, script_of, IsOp, IsRangedBy, line_of}
+use Rattle.generated.proofs.Terms.{Event, Line, Answer as AnswerEvent, Provider, State, history_of, left_now, runs, cleared, does, line, happens, Act}
+use Rattle.generated.proofs.Terms.{line_enabled, order_of_writer, enabled, after, state, Run, is_lane, cursor, next_line, line_event, answer_event}
+use Rattle.generated.proofs.Terms.{script_event, event_of, act_of, event_enabled, can_act, none_can_act, may_move, IsOrderly, state-append, cursor_more}
+use Rattle.generated.proofs.Terms.{cursor_same, orderly, Asked, AreAsked, Spot, Place, spot_after, completes_sets, is_full, IsSmooth, writes, is_write}
+use Rattle.generated.proofs.Terms.{and_left, and_right}
 use Rattle.writer_calls.specs.declared.answer.Answer.TheVariants.{Ok}
-use Rattle.writer_calls.specs.declared.scripted.Scripted.{Scripted}
-use Rattle.writer_calls.specs.Script.{scripted_answer}
-use Rattle.set_agenda.specs.Agenda.{left, next_member, is_asking, is_working}
-use Rattle.set_agenda.specs.Course.{sent}
-use Rattle.scenario.specs.declared.op.Op.{Op}
 use Rattle.scenario.specs.declared.line.Line.{Line as Does}
-use Rattle.scenario.specs.declared.line.Line.TheVariants.{Writes}
-use Rattle.scenario.specs.Plan.{Plan, LaneLine, lines_of, script_of}
-use Rattle.scenario.specs.Bounds.{IsOp, IsRangedBy}
-use Rattle.scenario.specs.Calls.{line_of}
-use Rattle.vss_model.specs.declared.event.Event.{Event}
-use Rattle.vss_model.specs.declared.event.Event.TheVariants.{Line, Answer as AnswerEvent, Provider}
-use Rattle.vss_model.specs.State.{State, history_of, left_now}
-use Rattle.vss_model.specs.Ending.{runs}
-use Rattle.vss_model.specs.Images.{cleared}
-use Rattle.vss_model.specs.Lines.{does, line}
-use Rattle.vss_model.specs.Acts.{Act, line_enabled, order_of_writer, enabled, happens, after_if, after, state}
-use Rattle.vss_model.specs.Trail.{Run, is_lane, cursor, next_line, line_event, answer_event, script_event, event_of, act_of, event_enabled, can_act, none_can_act, may_move}
-use Rattle.vss_model.specs.Facts.{IsOrderly}
-use Rattle.vss_model.proofs.Appending.{state-append}
-use Rattle.vss_model.proofs.GoesOn.{cursor_more, cursor_same}
-use Rattle.vss_model.proofs.OrderlyActs.{orderly}
+use Rattle.vss_model.proofs.Changes.{after_enabled as act_enabled}
 use Rattle.vss_model.proofs.Waiting.{agenda_goes_on}
-use Rattle.generated.specs.Asked.{Asked, AreAsked}
-use Rattle.generated.specs.Spots.{Spot, Place, spot_after, completes_sets, is_full}
-use Rattle.generated.specs.Smooth.{IsSmooth, writes, is_write}
 use Rattle.generated.proofs.Sound.{IsSound}
 use Rattle.generated.proofs.Standing.{IsAt, IsOnWay}
 use Rattle.generated.proofs.Courses.{asked_is_below}
@@ -43,7 +19,6 @@ use Rattle.generated.proofs.Known.{IsKnown}
 use Rattle.generated.proofs.Requests.{requests}
 use Rattle.generated.proofs.Room.{few_images, none_cleared}
 use Rattle.generated.proofs.Ways.{write_at, answer_at, step_at, runs_of_asking}
-use Rattle.writer_meta.proofs.Laws.{and_left, and_right}
 
 -- ## lists
 
@@ -88,8 +63,7 @@ below_range p n w l h = subst (λ i. p i ≡ true) (none w) (in_range p 0 n w (i
 -- ## the state after
 
 pub after_enabled : (s : Plan) (st : State) (event : Event) (mark : Mark) → enabled s st event ≡ true → after s st (act_of mark event) ≡ (happens s event mark st).1
-unfolding after
-after_enabled s st event mark e = ap (λ b. after_if b s st (act_of mark event)) e
+after_enabled s st event mark e = act_enabled s st (act_of mark event) e
 
 pub record IsReached (s : Plan) (st : State) : Type 0 where
   pub so_far : List Act

@@ -1,16 +1,10 @@
 -- The reader goes on over a text line by line: each line that says something adds what it says.
 use Rattle.std.proofs.Common.{◌≡◌, ◌∙◌, ℕ, ◌+◌, ◌-◌, Bool, true, false, List, [], ◌∷◌, ◌++◌, length, map, refl, ap, sym, subst, arith, append_assoc, length-append}
 use Rattle.std.specs.Prelude.{◌==◌, if◌then◌else◌, Result, Ok, Err}
-use Rattle.std.specs.List.{list_all}
-use Rattle.scenario.specs.declared.reason.Reason.{Reason}
-use Rattle.scenario.specs.declared.reason.Reason.TheVariants.{BadByte}
-use Rattle.scenario.specs.Lines.{span_from, lines_from}
-use Rattle.scenario.specs.Fields.{bytes_of, words_from}
-use Rattle.scenario.specs.Words.{word_of}
-use Rattle.scenario.specs.SoFar.{SoFar, Saying, nothing, after, plan_in}
+use Rattle.generated.proofs.Terms.{list_all, Reason, BadByte, span_from, lines_from, bytes_of, words_from, word_of, SoFar, Saying, nothing, plan_in}
+use Rattle.generated.proofs.Terms.{is_printable, is_skipped, placed_row_of, said_of, saying_of, IsScenario, goes_on, read_from, reading_of}
+use Rattle.scenario.specs.SoFar.{after}
 use Rattle.scenario.specs.SoFar as saying
-use Rattle.scenario.specs.Entries.{is_printable, is_skipped, placed_row_of, said_of, saying_of}
-use Rattle.scenario.specs.Grammar.{IsScenario, goes_on, read_from, reading_of}
 use Rattle.generated.proofs.Words.{are_words, joined, spans_at, words_joined, joined_printable, part_is, parts_are, line_first}
 
 -- ## what a line says

@@ -1,14 +1,8 @@
 -- Each line of the lane that makes the sets leads a state from spot to spot.
 use Rattle.std.proofs.Common.{◌≡◌, ℕ, ◌≤◌, List, None, true, length, arith}
-use Rattle.write_history.specs.declared.mark.Mark.{Mark}
-use Rattle.requestor.specs.declared.stage.Stage.TheVariants.{Opened, Gathered, Started, Prepared, Done, Finished, Failed}
-use Rattle.scenario.specs.declared.op.Op.{Op}
-use Rattle.scenario.specs.Plan.{Plan}
-use Rattle.vss_model.specs.State.{State}
-use Rattle.vss_model.specs.Lines.{line}
-use Rattle.vss_model.specs.Acts.{line_enabled}
-use Rattle.generated.specs.Asked.{Asked, Begins, Gathers, Awaits, Names, Starts, Adds, Prepares, Snapshots, Completes, Ends, IsAsked}
-use Rattle.generated.specs.Spots.{Place, Free, Stands, Waits, spot_after, completes_sets}
+use Rattle.generated.proofs.Terms.{Mark, Opened, Gathered, Started, Prepared, Done, Finished, Failed, Op, Plan, State, line, line_enabled, Asked, Begins}
+use Rattle.generated.proofs.Terms.{Gathers, Awaits, Names, Starts, Adds, Prepares, Snapshots, Completes, Ends, IsAsked, Place, Free, Stands, Waits, spot_after}
+use Rattle.generated.proofs.Terms.{completes_sets}
 use Rattle.generated.proofs.Standing.{IsAt}
 use Rattle.generated.proofs.AgendaLines.{prepares, snapshots, completes, ends, awaits}
 use Rattle.generated.proofs.Known.{IsKnown, LeadsTo}

@@ -1,23 +1,11 @@
 -- A write finds its slot: each volume has slots of its own for all its blocks in each set.
 use Rattle.std.proofs.Common.{◌≡◌, ℕ, zero, suc, ◌+◌, ◌*◌, ◌<◌, ◌≤◌, ◌==◌, List, [], ◌∷◌, length, map, refl, ap, sym, ◌∙◌, subst, arith, Bool, true, false, Option, Some, None}
 use Rattle.std.specs.Prelude.{slice_get, filter, find, not, nat_lt, unwrap_or, ◌&&◌, ◌||◌, if◌then◌else◌, All}
-use Rattle.std.specs.List.{range_with_len}
-use Rattle.std.proofs.lemmas.Bool.Decides.{nat_tests}
-use Rattle.std.proofs.Math.Nat.{mul-le-mul_right, mul_comm, mul-add, mul-one}
-use Rattle.write_history.specs.History.{Write, History, Image, names, after_set, AreInTime}
-use Rattle.write_history.specs.Slots.{Placed, used, group_used, lacks_slot, needs_slot, needs_slot_in, gone_up_to, evicted_up_to, writes_since}
-use Rattle.scenario.specs.declared.volume_row.VolumeRow.{VolumeRow}
-use Rattle.scenario.specs.Plan.{Plan, blocks_in, slots_in, placed, placed_in}
-use Rattle.vss_model.specs.State.{SetRow, history_in, history_of, has_image}
-use Rattle.vss_model.specs.Images.{cleared, has_lost_image, set_loses_image}
-use Rattle.vss_model.specs.Acts.{Act, state}
-use Rattle.vss_model.specs.Facts.{NumberedFrom, AreLive, AllLive, is_live, has_failed}
-use Rattle.vss_model.proofs.OneCut.{images_in_time}
-use Rattle.vss_model.proofs.OrderlyActs.{orderly}
-use Rattle.generated.specs.Smooth.{AreAlone}
+use Rattle.generated.proofs.Terms.{range_with_len, nat_tests, mul-le-mul_right, mul_comm, mul-add, mul-one, Write, History, Image, names, after_set, AreInTime}
+use Rattle.generated.proofs.Terms.{Placed, used, group_used, lacks_slot, needs_slot, needs_slot_in, gone_up_to, evicted_up_to, writes_since, VolumeRow, Plan}
+use Rattle.generated.proofs.Terms.{blocks_in, slots_in, placed, placed_in, SetRow, history_in, history_of, has_image, has_lost_image, set_loses_image, cleared}
+use Rattle.generated.proofs.Terms.{Act, state, NumberedFrom, AreLive, AllLive, is_live, has_failed, images_in_time, orderly, AreAlone, apart, live_at}
 use Rattle.set_agenda.proofs.Closings.{unless}
-use Rattle.vss_model.proofs.Rows.{apart}
-use Rattle.vss_model.proofs.Failures.{live_at}
 
 -- ## few images
 

@@ -1,28 +1,15 @@
 -- A legal trail without faults keeps a run on its way, and so its sets are complete at its end.
 use Rattle.std.proofs.Common.{◌≡◌, ℕ, zero, suc, ◌+◌, List, [], ◌∷◌, ◌++◌, Option, Some, None, refl, Bool, true, false, ap, sym, ◌∙◌, ◌==◌, subst, length, arith, find}
 use Rattle.std.specs.Prelude.{is_none, cond, slice_get, not, if◌then◌else◌}
-use Rattle.std.specs.List.{list_all, range_with_len}
-use Rattle.std.proofs.lemmas.List.Sums.{sum_by-cons}
-use Rattle.std.proofs.lemmas.Bool.{and_from}
-use Rattle.vss_names.specs.declared.set_outcome.SetOutcome.{SetOutcome}
-use Rattle.write_history.specs.declared.mark.Mark.{Mark}
-use Rattle.write_history.specs.declared.mark.Mark.TheVariants.{Clean}
-use Rattle.write_history.specs.declared.move_item.Move.{Move}
-use Rattle.scenario.specs.Plan.{Plan, LanePlan, lines_in, lines_of}
-use Rattle.vss_model.specs.declared.event.Event.{Event}
-use Rattle.vss_model.specs.State.{State, SetRow, is_running, is_complete, row_of_writer}
-use Rattle.vss_model.specs.Ending.{runs}
-use Rattle.vss_model.specs.Acts.{after, state}
-use Rattle.vss_model.specs.Trail.{Run, begin, cursor, next_line, event_of, act_of, acts, after_event, moved, run_from, run, may_move, allows, is_legal_move, is_legal_from, is_legal, is_used_up, is_over, is_complete as is_complete_trail, is_fault, faults}
-use Rattle.vss_model.specs.Facts.{IsOfNone, has_failed, IsOrderly}
-use Rattle.vss_model.proofs.Appending.{state-append, state-run}
-use Rattle.generated.specs.Asked.{Asked, AreAsked}
-use Rattle.generated.specs.Spots.{Place, Free, is_at_end, is_free, completes_sets}
-use Rattle.generated.specs.Smooth.{IsSmooth}
+use Rattle.generated.proofs.Terms.{list_all, range_with_len, sum_by-cons, and_from, SetOutcome, Mark, Clean, Move, Plan, LanePlan, lines_in, lines_of, Event}
+use Rattle.generated.proofs.Terms.{State, SetRow, is_running, is_complete, row_of_writer, runs, after, state, Run, begin, cursor, next_line, event_of, act_of}
+use Rattle.generated.proofs.Terms.{acts, after_event, moved, run_from, run, may_move, allows, is_legal_move, is_legal_from, is_legal, is_used_up, is_over}
+use Rattle.generated.proofs.Terms.{is_fault, faults, IsOfNone, has_failed, IsOrderly, state-append, state-run, Asked, AreAsked, Place, Free, is_at_end, is_free}
+use Rattle.generated.proofs.Terms.{completes_sets, IsSmooth, and_left, and_right}
+use Rattle.vss_model.specs.Trail.{is_complete as is_complete_trail}
 use Rattle.generated.proofs.Standing.{none_failed, IsAt, IsOnWay}
 use Rattle.generated.proofs.Courses.{length_map}
 use Rattle.generated.proofs.Moves.{drop_none, IsReached, orderly_now, IsBefore, IsNextIf, on_move}
-use Rattle.writer_meta.proofs.Laws.{and_left, and_right}
 use Rattle.scenario.proofs.Places.{number_is}
 
 -- ## all moves

@@ -1,38 +1,20 @@
 -- The lines that begin a session and put a set together each lead a state from spot to spot.
 use Rattle.std.proofs.Common.{◌≡◌, ℕ, ◌+◌, ◌≤◌, List, [], ◌∷◌, ◌++◌, Some, None, refl, Bool, true, false, ap, sym, ◌∙◌, ◌==◌, subst, length, arith, map}
 use Rattle.std.specs.Prelude.{option_map, nat_lt, nat_le, ◌&&◌, not, if◌then◌else◌}
-use Rattle.std.proofs.lemmas.Bool.Decides.{nat_tests}
-use Rattle.std.proofs.lemmas.Bool.{and_from}
-use Rattle.vss_names.specs.declared.context.Context.TheVariants.{AppRollback}
-use Rattle.vss_names.specs.Context.{context_of_number}
-use Rattle.vss_names.specs.declared.set_outcome.SetOutcome.{SetOutcome}
-use Rattle.vss_names.specs.declared.vss_result.VssResult.{VssResult}
-use Rattle.write_history.specs.declared.mark.Mark.{Mark}
-use Rattle.set_agenda.specs.Agenda.{is_among}
-use Rattle.set_agenda.specs.Course.{gathered}
-use Rattle.component_doc.specs.Selection.{Naming, IsNotFound, IsNotSelectable, IsNamedAlready, Names as NamesPair, naming}
+use Rattle.generated.proofs.Terms.{nat_tests, and_from, AppRollback, context_of_number, SetOutcome, VssResult, Mark, is_among, gathered, Naming, IsNotFound}
+use Rattle.generated.proofs.Terms.{IsNotSelectable, IsNamedAlready, naming, Opened, Gathered, Started, context_of, Op, Gather, Component, Start, Add, Plan}
+use Rattle.generated.proofs.Terms.{token, State, SetRow, is_running, in_progress, history_of, followed, change_set, add_to, add, named_as, called, line}
+use Rattle.generated.proofs.Terms.{is_disabled, known_metas, volumes_of, new_set, new_number, with_volume, add_refusal, line_enabled, has_failed, IsOrderly}
+use Rattle.generated.proofs.Terms.{find-map, find-append_new, Asked, Begins, Gathers, Names, Starts, Adds, IsAsked, Free, Stands, Waits, spot_after}
+use Rattle.generated.proofs.Terms.{completes_sets, added, and_left, and_right}
+use Rattle.component_doc.specs.Selection.{Names as NamesPair}
 use Rattle.requestor.specs.declared.session_call.SessionCall.TheVariants as call
-use Rattle.requestor.specs.declared.stage.Stage.TheVariants.{Opened, Gathered, Started}
-use Rattle.requestor.specs.Session.{context_of}
-use Rattle.scenario.specs.declared.op.Op.{Op}
-use Rattle.scenario.specs.declared.op.Op.TheVariants.{Gather, Component, Start, Add}
-use Rattle.scenario.specs.Plan.{Plan, token}
-use Rattle.vss_model.specs.State.{State, SetRow, is_running, in_progress, history_of}
-use Rattle.vss_model.specs.Ending.{followed}
-use Rattle.vss_model.specs.Sessions.{is_disabled, known_metas, volumes_of, new_set, new_number, with_volume, change_set, add_refusal, add_to, add, named_as}
-use Rattle.vss_model.specs.Lines.{called, line}
-use Rattle.vss_model.specs.Acts.{line_enabled}
-use Rattle.vss_model.specs.Facts.{has_failed, IsOrderly}
-use Rattle.vss_model.proofs.Orderly.{find-map, find-append_new}
-use Rattle.generated.specs.Asked.{Asked, Begins, Gathers, Names, Starts, Adds, IsAsked}
-use Rattle.generated.specs.Spots.{Free, Stands, Waits, spot_after, completes_sets, added}
 use Rattle.generated.proofs.CutRows.{is_cut, is_cut_or_open, IsNow, HasCuts}
 use Rattle.generated.proofs.Standing.{session_at, none_failed, IsAt}
 use Rattle.generated.proofs.Courses.{length_map, sound_gathered, less_is}
 use Rattle.generated.proofs.Cuts.{cuts_followed}
 use Rattle.generated.proofs.Known.{IsKnown, LeadsTo, goes, as_line, none_in, now_none, now_found, quiet_said, running_early, of_session, cuts_snoc, done_snoc, cuts_mapped, done_mapped, now_mapped, found_in}
 use Rattle.generated.proofs.Steps.{goes_on, followed_volumes}
-use Rattle.writer_meta.proofs.Laws.{and_left, and_right}
 
 -- ## the lines
 

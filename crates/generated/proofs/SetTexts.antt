@@ -1,24 +1,11 @@
 -- The lines of the lane that makes the sets: each means what it asks for.
 use Rattle.std.proofs.Common.{◌≡◌, ◌∙◌, ℕ, zero, suc, ◌+◌, ◌<◌, Bool, true, false, List, [], ◌∷◌, ◌++◌, length, map, Some, refl, ap, arith, codes, length-append}
 use Rattle.std.specs.Prelude.{nat_lt, if◌then◌else◌, ok_or, Ok}
-use Rattle.std.specs.List.{range_with_len}
-use Rattle.std.proofs.lemmas.Bool.Decides.{nat_tests}
-use Rattle.scenario.specs.declared.op.Op.{Op}
-use Rattle.scenario.specs.declared.op.Op.TheVariants.{Begin, Gather, Start, Add, Prepare, Snapshot, Await, Complete, End}
-use Rattle.scenario.specs.declared.reason.Reason.TheVariants.{UnknownName}
-use Rattle.scenario.specs.Plan.{Plan, LaneLine}
-use Rattle.scenario.specs.Lines.{span_from}
-use Rattle.scenario.specs.Fields.{bytes_of, fields_of, rest_fields}
-use Rattle.scenario.specs.Numbers.{number_in}
-use Rattle.scenario.specs.Words.{word_of}
-use Rattle.scenario.specs.Names.{place_of, volume_named, writer_named}
-use Rattle.scenario.specs.Ops.{number_field, volume_field, writer_field, volume_alone, begin_of, component_of, add_of, op_of}
-use Rattle.scenario.specs.SoFar.{SoFar}
-use Rattle.scenario.specs.Entries.{row_of}
-use Rattle.generator_text.specs.Lines.{as_lines}
-use Rattle.generator_text.specs.ScenarioText.{set_lines}
-use Rattle.generated.specs.Asked.{Asked, Begins, Gathers, Awaits, Names, Starts, Adds, Prepares, Snapshots, Completes, Ends, IsAsked, AreAsked, one_set}
-use Rattle.generated.specs.Scenario.{system, database, web}
+use Rattle.generated.proofs.Terms.{range_with_len, nat_tests, Op, Begin, Gather, Start, Add, Prepare, Snapshot, Await, Complete, End, UnknownName, Plan}
+use Rattle.generated.proofs.Terms.{LaneLine, span_from, bytes_of, fields_of, rest_fields, number_in, word_of, place_of, volume_named, writer_named}
+use Rattle.generated.proofs.Terms.{number_field, volume_field, writer_field, volume_alone, begin_of, component_of, add_of, op_of, SoFar, row_of, as_lines}
+use Rattle.generated.proofs.Terms.{set_lines, Asked, Begins, Gathers, Awaits, Names, Starts, Adds, Prepares, Snapshots, Completes, Ends, IsAsked, AreAsked}
+use Rattle.generated.proofs.Terms.{one_set, system, database, web}
 use Rattle.generated.proofs.Words.{are_words, spans_at}
 use Rattle.generated.proofs.Reader.{end_of, head_is, Then, line_then, same_rest}
 use Rattle.generated.proofs.Meant.{Declared, IsDeclared, Meaning, Does, NamesMain, IsMeant, AreMeant, Run, IsSaid, with_meant}

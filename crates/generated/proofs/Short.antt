@@ -1,13 +1,8 @@
 -- The text of a generated scenario is short.
 use Rattle.std.proofs.Common.{◌≡◌, ℕ, suc, ◌+◌, ◌*◌, ◌<◌, ◌≤◌, Bool, true, List, [], ◌∷◌, ◌++◌, length, refl, arith, codes, length-append}
 use Rattle.std.specs.Prelude.{nat_lt}
-use Rattle.std.specs.List.{list_all, flat_map, range_with_len}
-use Rattle.std.specs.Fmt.{decimal}
-use Rattle.std.proofs.lemmas.Fmt.{length-decimal-le}
-use Rattle.std.proofs.lemmas.Bool.Decides.{nat_tests}
-use Rattle.generator_text.specs.Lines.{as_lines}
-use Rattle.generator_text.specs.ScenarioText.{declarations, set_lines, acting, drawn_text, writes_text, lane_text, lanes_text, gen_text}
-use Rattle.vss_report.proofs.Joined.{first_of_both, second_of_both}
+use Rattle.generated.proofs.Terms.{list_all, flat_map, range_with_len, decimal, length-decimal-le, nat_tests, as_lines, declarations, set_lines, acting}
+use Rattle.generated.proofs.Terms.{drawn_text, writes_text, lane_text, lanes_text, gen_text, first_of_both, second_of_both}
 use Rattle.generated.proofs.WriteLines.{is_early, drawn_write}
 
 few_digits : (n : ℕ) → n ≤ 18446744073709551615 → length (decimal n) ≤ 20

@@ -1,22 +1,10 @@
 -- The invariant of the lane that makes the sets: a state stands where the lane's lines so far have led. Every act of a run
 -- keeps it; only the lane's own lines move the spot on.
 use Rattle.std.specs.Prelude.{ℕ, ◌≡◌, ◌⊎◌, Bool, true, false, List, length, drop, find, not, Option, Some, None}
-use Rattle.std.specs.List.{list_all}
-use Rattle.vss_names.specs.declared.context.Context.TheVariants.{AppRollback}
-use Rattle.vss_names.specs.declared.vss_result.VssResult.{VssResult}
+use Rattle.generated.proofs.Terms.{list_all, AppRollback, VssResult, Stage, Started, Prepared, Session, Plan, lines_of, State, SetRow, is_running, runs}
+use Rattle.generated.proofs.Terms.{volumes_of, Act, state, has_failed, Run, cursor, Asked, AreAsked, Spot, Place, Free, Stands, Waits, stage_next, volumes_next}
+use Rattle.generated.proofs.Terms.{completes_sets}
 use Rattle.requestor.specs.declared.mode.Mode.TheVariants.{Components}
-use Rattle.requestor.specs.declared.stage.Stage.{Stage}
-use Rattle.requestor.specs.declared.stage.Stage.TheVariants.{Started, Prepared}
-use Rattle.requestor.specs.Session.{Session}
-use Rattle.scenario.specs.Plan.{Plan, lines_of}
-use Rattle.vss_model.specs.State.{State, SetRow, is_running}
-use Rattle.vss_model.specs.Ending.{runs}
-use Rattle.vss_model.specs.Sessions.{volumes_of}
-use Rattle.vss_model.specs.Acts.{Act, state}
-use Rattle.vss_model.specs.Facts.{has_failed}
-use Rattle.vss_model.specs.Trail.{Run, cursor}
-use Rattle.generated.specs.Asked.{Asked, AreAsked}
-use Rattle.generated.specs.Spots.{Spot, Place, Free, Stands, Waits, stage_next, volumes_next, completes_sets}
 use Rattle.generated.proofs.Sound.{IsSound}
 
 -- lane 0 owns the session, in context 9

@@ -1,26 +1,12 @@
 -- What each change leaves of where a state stands.
 use Rattle.std.proofs.Common.{◌≡◌, ℕ, List, [], ◌∷◌, Option, Some, None, refl, Bool, true, false, ap, sym, ◌∙◌, subst, length, inl, inr, find, map, arith}
 use Rattle.std.specs.Prelude.{option_map, is_some, not, if◌then◌else◌}
-use Rattle.std.proofs.lemmas.Bool.{and_from}
-use Rattle.vss_names.specs.declared.set_outcome.SetOutcome.{SetOutcome}
-use Rattle.vss_names.specs.declared.set_outcome.SetOutcome.TheVariants.{Running}
-use Rattle.vss_names.specs.declared.vss_result.VssResult.{VssResult}
-use Rattle.set_agenda.specs.Agenda.{Agenda}
-use Rattle.set_agenda.specs.Course.{Course}
-use Rattle.requestor.specs.declared.stage.Stage.{Stage}
-use Rattle.requestor.specs.declared.stage.Stage.TheVariants.{Prepared}
-use Rattle.requestor.specs.Session.{Session, agenda_ended}
-use Rattle.scenario.specs.Plan.{Plan}
-use Rattle.vss_model.specs.State.{State, SetRow, is_running}
-use Rattle.vss_model.specs.Ending.{Ending, NothingEnds, AgendaEnds, ending, row_settled, concluded, followed}
-use Rattle.vss_model.specs.Sessions.{volumes_of}
-use Rattle.vss_model.specs.Facts.{IsOfSession, has_failed, IsOrderly}
-use Rattle.vss_model.proofs.Orderly.{find-settled_running}
-use Rattle.generated.specs.Spots.{Waits, stage_next, volumes_next}
+use Rattle.generated.proofs.Terms.{and_from, SetOutcome, Running, VssResult, Agenda, Course, Stage, Prepared, Session, agenda_ended, Plan, State, SetRow}
+use Rattle.generated.proofs.Terms.{is_running, Ending, NothingEnds, AgendaEnds, ending, row_settled, concluded, followed, volumes_of, IsOfSession, has_failed}
+use Rattle.generated.proofs.Terms.{IsOrderly, find-settled_running, Waits, stage_next, volumes_next, and_left, and_right}
 use Rattle.generated.proofs.Sound.{IsSound}
 use Rattle.generated.proofs.Standing.{session_at, IsIn, HasVolumes, none_failed, IsAt}
 use Rattle.generated.proofs.Courses.{length_map}
-use Rattle.writer_meta.proofs.Laws.{and_left, and_right}
 
 -- ## endings
 

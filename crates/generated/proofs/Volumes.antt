@@ -2,43 +2,17 @@
 -- changes any. Nothing is evicted.
 use Rattle.std.proofs.Common.{◌≡◌, ℕ, zero, suc, ◌+◌, ◌<◌, ◌≤◌, List, [], ◌∷◌, ◌++◌, Option, Some, None, refl, Bool, true, false, ap, sym, ◌∙◌, ◌==◌, subst, length, drop, arith}
 use Rattle.std.specs.Prelude.{is_some, filter, slice_get, ◌&&◌, not, if◌then◌else◌, nat_le}
-use Rattle.std.specs.List.{flat_map}
-use Rattle.block_data.specs.declared.payload.Payload.TheVariants.{Fill, Stamp}
-use Rattle.block_data.specs.PayloadBytes.{payload_bytes}
-use Rattle.vss_names.specs.declared.order.Order.{Order}
-use Rattle.writer_state.specs.declared.said.Said.TheVariants.{Ok as SaidOk}
-use Rattle.write_history.specs.declared.actor.Actor.{Actor}
-use Rattle.write_history.specs.declared.actor.Actor.TheVariants.{Lane, Writer, Advance, Idle}
-use Rattle.write_history.specs.declared.mark.Mark.{Mark}
-use Rattle.write_history.specs.declared.mark.Mark.TheVariants.{Clean}
-use Rattle.write_history.specs.declared.move_item.Move.{Move}
-use Rattle.write_history.specs.History.{Write, History, written as with_write}
-use Rattle.write_history.specs.Slots.{evicted_of}
+use Rattle.generated.proofs.Terms.{flat_map, Fill, Stamp, payload_bytes, Order, Ok as SaidOk, Actor, Lane, Writer, Advance, Idle, Mark, Clean, Move, Write}
+use Rattle.generated.proofs.Terms.{History, written as with_write, evicted_of, Scripted, scripted_answer, Group, Cut, is_asking, is_working, is_among}
+use Rattle.generated.proofs.Terms.{open_group, sent, change_at, answered as course_answered, stepped as course_stepped, Op, WriteFill, WriteStamp, Plan}
+use Rattle.generated.proofs.Terms.{LaneLine, lines_of, blocks_of, IsOp, target_of, Event, Line, Answer as AnswerEvent, Provider, State, SetRow, in_progress}
+use Rattle.generated.proofs.Terms.{history_in, history_of, left_now, has_image, is_complete, followed, cleared, with_room_if, write, cut_set, step_made, line}
+use Rattle.generated.proofs.Terms.{happens, cut_if, cut_each, order_of_writer, line_enabled, enabled, after, volumes_losing, evicted_for, evicted_at, evicted}
+use Rattle.generated.proofs.Terms.{Run, cursor, next_line, line_event, answer_event, script_event, event_of, act_of, event_enabled, none_can_act, may_move}
+use Rattle.generated.proofs.Terms.{Asked, IsAsked, AreAsked, Spot, spot_after, completes_sets, is_full, IsSmooth, is_write, and_left, and_right, as_many_change}
+use Rattle.generated.proofs.Terms.{as_many_cut}
 use Rattle.writer_calls.specs.declared.answer.Answer.TheVariants.{Ok}
-use Rattle.writer_calls.specs.declared.scripted.Scripted.{Scripted}
-use Rattle.writer_calls.specs.Script.{scripted_answer}
-use Rattle.set_agenda.specs.declared.group.Group.{Group}
-use Rattle.set_agenda.specs.declared.group.Group.TheVariants.{Cut}
-use Rattle.set_agenda.specs.Agenda.{is_asking, is_working, is_among, open_group}
-use Rattle.set_agenda.specs.Course.{sent, change_at, answered as course_answered, stepped as course_stepped}
-use Rattle.scenario.specs.declared.op.Op.{Op}
-use Rattle.scenario.specs.declared.op.Op.TheVariants.{WriteFill, WriteStamp}
-use Rattle.scenario.specs.Plan.{Plan, LaneLine, lines_of, blocks_of}
-use Rattle.scenario.specs.Bounds.{IsOp}
-use Rattle.scenario.specs.Calls.{target_of}
-use Rattle.vss_model.specs.declared.event.Event.{Event}
-use Rattle.vss_model.specs.declared.event.Event.TheVariants.{Line, Answer as AnswerEvent, Provider}
-use Rattle.vss_model.specs.State.{State, SetRow, in_progress, history_in, history_of, left_now, has_image, is_complete}
-use Rattle.vss_model.specs.Ending.{followed}
-use Rattle.vss_model.specs.Images.{cleared, with_room_if, write}
-use Rattle.vss_model.specs.Steps.{cut_if, cut_each, cut_set, step_made, answered, stepped}
-use Rattle.vss_model.specs.Lines.{line}
-use Rattle.vss_model.specs.Acts.{order_of_writer, line_enabled, enabled, happens, after}
-use Rattle.vss_model.specs.Effects.{volumes_losing, evicted_for, evicted_at, evicted}
-use Rattle.vss_model.specs.Trail.{Run, cursor, next_line, line_event, answer_event, script_event, event_of, act_of, event_enabled, none_can_act, may_move}
-use Rattle.generated.specs.Asked.{Asked, IsAsked, AreAsked}
-use Rattle.generated.specs.Spots.{Spot, spot_after, completes_sets, is_full}
-use Rattle.generated.specs.Smooth.{IsSmooth, is_write}
+use Rattle.vss_model.proofs.StateForm.{answered, stepped}
 use Rattle.generated.proofs.Sound.{IsSound}
 use Rattle.generated.proofs.Standing.{IsAt}
 use Rattle.generated.proofs.Puts.{put_if, puts_to, puts_of}
@@ -49,9 +23,7 @@ use Rattle.generated.proofs.Requests.{requests}
 use Rattle.generated.proofs.Room.{few_images, none_cleared, no_set_loses}
 use Rattle.generated.proofs.Steps.{followed_volumes}
 use Rattle.generated.proofs.Ways.{runs_of_order, runs_of_step}
-use Rattle.writer_meta.proofs.Laws.{and_left, and_right}
 use Rattle.vss_model.proofs.CutHistory.{append_none}
-use Rattle.vss_model.proofs.Volumes.{as_many_change, as_many_cut}
 
 -- what an event does to the images of a state before its course goes on
 abbrev pub made_by : State → Event → State

@@ -1,25 +1,11 @@
 -- Each move of a legal trail without faults keeps a run on its way.
 use Rattle.std.proofs.Common.{◌≡◌, ℕ, List, [], ◌∷◌, Option, Some, refl, Bool, true, false, ap, sym, ◌∙◌, ◌==◌, subst, length, inl, inr, find, map, arith}
 use Rattle.std.specs.Prelude.{is_some, ◌&&◌, not, if◌then◌else◌}
-use Rattle.vss_names.specs.declared.set_outcome.SetOutcome.{SetOutcome}
-use Rattle.writer_state.specs.declared.said.Said.TheVariants.{Ok as SaidOk}
-use Rattle.write_history.specs.declared.mark.Mark.{Mark}
-use Rattle.write_history.specs.declared.mark.Mark.TheVariants.{Clean}
-use Rattle.write_history.specs.History.{Write}
-use Rattle.set_agenda.specs.declared.group.Group.{Group}
-use Rattle.set_agenda.specs.declared.group.Group.TheVariants.{Cut}
-use Rattle.set_agenda.specs.Agenda.{Agenda, left, open_group, is_asking, is_working, open_order}
-use Rattle.set_agenda.specs.Course.{Course, answered as course_answered, stepped as course_stepped}
-use Rattle.scenario.specs.Plan.{Plan}
-use Rattle.vss_model.specs.State.{State, SetRow, is_running, in_progress, left_now}
-use Rattle.vss_model.specs.Ending.{followed, runs}
-use Rattle.vss_model.specs.Images.{cleared, with_room_if, put, write}
-use Rattle.vss_model.specs.Sessions.{volumes_of}
-use Rattle.vss_model.specs.Steps.{with_cut, row_cut, cut_set, step_made, answered, stepped}
-use Rattle.vss_model.specs.Acts.{order_of_writer}
-use Rattle.vss_model.specs.Facts.{has_failed, IsOrderly}
-use Rattle.vss_model.proofs.Orderly.{find-map, true_not_false}
-use Rattle.generated.specs.Spots.{Place, Free, Stands, Waits}
+use Rattle.generated.proofs.Terms.{SetOutcome, Ok as SaidOk, Mark, Clean, Write, Group, Cut, Agenda, left, open_group, is_asking, is_working, open_order}
+use Rattle.generated.proofs.Terms.{Course, answered as course_answered, stepped as course_stepped, Plan, State, SetRow, is_running, in_progress, left_now, runs}
+use Rattle.generated.proofs.Terms.{followed, cleared, with_room_if, put, write, cut_set, step_made, volumes_of, with_cut, row_cut, order_of_writer, has_failed}
+use Rattle.generated.proofs.Terms.{IsOrderly, find-map, true_not_false, Place, Free, Stands, Waits}
+use Rattle.vss_model.proofs.StateForm.{answered, stepped}
 use Rattle.generated.proofs.Sound.{IsSound}
 use Rattle.generated.proofs.Standing.{IsPlace, none_failed, IsAt}
 use Rattle.generated.proofs.Courses.{length_map, sound_answered, sound_stepped}

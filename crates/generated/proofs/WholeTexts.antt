@@ -1,16 +1,8 @@
 -- The text of the generated scenario of a number reads as a plan that is generated of this number.
 use Rattle.std.proofs.Common.{◌≡◌, ◌∙◌, ℕ, zero, suc, ◌+◌, ◌<◌, List, [], ◌∷◌, ◌++◌, map, Some, None, refl, ap, sym, subst, arith, codes, append_assoc}
 use Rattle.std.specs.Prelude.{slice_get}
-use Rattle.std.specs.List.{range_with_len}
-use Rattle.vss_names.specs.Names.{is_name}
-use Rattle.scenario.specs.Plan.{Plan, LaneLine, lines_of}
-use Rattle.scenario.specs.SoFar.{SoFar, nothing, plan_in}
-use Rattle.scenario.specs.Grammar.{IsScenario, reading_of}
-use Rattle.generator_text.specs.Lines.{as_lines}
-use Rattle.generator_text.specs.ScenarioText.{declarations, set_lines, lanes_text, gen_text}
-use Rattle.generated.specs.Asked.{one_set, four_sets}
-use Rattle.generated.specs.Writes.{writes_of_lane}
-use Rattle.generated.specs.Scenario.{IsGenerated}
+use Rattle.generated.proofs.Terms.{range_with_len, is_name, Plan, LaneLine, lines_of, SoFar, nothing, plan_in, IsScenario, reading_of, as_lines, declarations}
+use Rattle.generated.proofs.Terms.{set_lines, lanes_text, gen_text, one_set, four_sets, writes_of_lane, IsGenerated}
 use Rattle.generated.specs.Reading.{IsRead}
 use Rattle.generated.proofs.Reader.{Then, begins, same_rest, ends}
 use Rattle.generated.proofs.Meant.{Meaning, AreMeant, all_end, LaneMeant, lines_at, lanes_whom, lane_lines, Run, IsSaid, with_meant, with_lane}

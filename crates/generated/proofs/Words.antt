@@ -1,18 +1,8 @@
 -- A line as its words: where it stands in a text, the reader finds these words, one space before each but the first.
 use Rattle.std.proofs.Common.{◌≡◌, ◌∙◌, ℕ, suc, ◌+◌, ◌-◌, ◌^◌, ◌<◌, Bool, true, false, List, [], ◌∷◌, ◌++◌, length, map, take, refl, ap, ap₂, sym, subst, arith, append_assoc, length-append}
 use Rattle.std.specs.Prelude.{◌==◌, ◌&&◌, nat_le, if◌then◌else◌, slice_range, Ok, Err}
-use Rattle.std.specs.List.{list_all}
-use Rattle.std.specs.Fmt.{decimal}
-use Rattle.std.proofs.lemmas.Bool.Decides.{nat_tests}
-use Rattle.std.proofs.Math.Seq.{drop-append_seam, take-append_seam}
-use Rattle.scenario.specs.declared.reason.Reason.TheVariants.{OutOfRange}
-use Rattle.scenario.specs.declared.span.Span.{Span}
-use Rattle.scenario.specs.Numbers.{is_digit, in_range, number_in}
-use Rattle.scenario.specs.Entries.{is_printable}
-use Rattle.scenario.specs.Lines.{span_from, lines_from}
-use Rattle.scenario.specs.Fields.{words_from, bytes_of}
-use Rattle.vss_report.proofs.Joined.{both, first_of_both, second_of_both}
-use Rattle.vss_report.proofs.LegibleWords.{number_back, are_digits}
+use Rattle.generated.proofs.Terms.{list_all, decimal, nat_tests, drop-append_seam, take-append_seam, OutOfRange, Span, is_digit, in_range, number_in}
+use Rattle.generated.proofs.Terms.{is_printable, span_from, lines_from, words_from, bytes_of, both, first_of_both, second_of_both, number_back, are_digits}
 
 -- ## bytes of words
 

@@ -1,24 +1,10 @@
 -- The lanes that write: each line is read as the write that it is, whatever the number of the scenario.
-use Rattle.std.proofs.Common.{◌≡◌, ◌∙◌, ℕ, ◌+◌, ◌-◌, ◌<◌, ◌≤◌, Bool, true, List, [], ◌∷◌, ◌++◌, map, refl, ap, ap₂, sym, arith, codes, append_assoc}
+use Rattle.std.proofs.Common.{◌≡◌, ◌∙◌, ℕ, ◌-◌, ◌<◌, ◌≤◌, Bool, true, List, [], ◌∷◌, ◌++◌, map, refl, ap, ap₂, sym, arith, codes, append_assoc}
 use Rattle.std.specs.Prelude.{◌&&◌, nat_lt, nat_le, count_by, Ok}
-use Rattle.std.specs.List.{list_all, range_with_len, flat_map}
-use Rattle.std.specs.Fmt.{decimal}
-use Rattle.std.proofs.lemmas.Fmt.{decimal_digit}
-use Rattle.std.proofs.lemmas.Bool.Decides.{nat_tests}
-use Rattle.scenario.specs.declared.op.Op.{Op}
-use Rattle.scenario.specs.declared.op.Op.TheVariants.{WriteStamp}
-use Rattle.scenario.specs.Plan.{LaneLine}
-use Rattle.scenario.specs.Lines.{span_from}
-use Rattle.scenario.specs.Fields.{bytes_of, text_field, fields_of}
-use Rattle.scenario.specs.Numbers.{number_in}
-use Rattle.scenario.specs.Words.{word_of}
-use Rattle.scenario.specs.Ops.{number_field, volume_field, block_at as block_value, payload_of, write_of, op_of}
-use Rattle.scenario.specs.SoFar.{SoFar}
-use Rattle.scenario.specs.Entries.{row_of}
-use Rattle.generator_text.specs.Draws.{volume_at, block_at, stamp_at}
-use Rattle.generator_text.specs.ScenarioText.{drawn_text, writes_text}
-use Rattle.generated.specs.Writes.{write_at}
-use Rattle.vss_report.proofs.Joined.{both}
+use Rattle.generated.proofs.Terms.{list_all, range_with_len, flat_map, decimal, decimal_digit, nat_tests, Op, WriteStamp, LaneLine, span_from, bytes_of}
+use Rattle.generated.proofs.Terms.{text_field, fields_of, number_in, word_of, number_field, volume_field, payload_of, write_of, op_of, SoFar, row_of, volume_at}
+use Rattle.generated.proofs.Terms.{block_at, stamp_at, drawn_text, writes_text, write_at, both}
+use Rattle.scenario.specs.Ops.{block_at as block_value}
 use Rattle.generated.proofs.Words.{are_words, spans_at, number_word, number_reads}
 use Rattle.generated.proofs.Reader.{head_is, tail_is, Then, line_then, same_rest}
 use Rattle.generated.proofs.Meant.{IsDeclared, Meaning, Does, AreMeant, begins, all_end, Run, IsSaid, with_meant}

@@ -9,7 +9,7 @@ use Rattle.vss_model.specs.State.{is_complete, history_of, kept}
 use Rattle.vss_model.specs.Acts.{Act, state}
 use Rattle.vss_model.specs.Effects.{evicted}
 use Rattle.vss_model.specs.Trail.{acts}
-use Rattle.generator_text.specs.Contents.{final_bytes}
+use Rattle.generated.specs.Contents.{final_bytes}
 
 pub record EndsWell (n : ℕ) (s : Plan) (trail : List Move) : Type 0 where
   pub four : length (state s (acts s trail)).sets ≡ 4

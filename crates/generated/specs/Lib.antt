@@ -1,3 +1,8 @@
+pub mod Draws
+pub mod Lines
+pub mod ScenarioText
+pub mod Contents
+pub mod Summary
 pub mod Asked
 pub mod Writes
 pub mod Scenario

@@ -2,7 +2,7 @@
 use Rattle.std.specs.Prelude.{ℕ, ◌≡◌}
 use Rattle.scenario.specs.Plan.{Plan}
 use Rattle.scenario.specs.Grammar.{reading_of, IsScenario}
-use Rattle.generator_text.specs.ScenarioText.{gen_text}
+use Rattle.generated.specs.ScenarioText.{gen_text}
 use Rattle.generated.specs.Scenario.{IsGenerated}
 
 -- the text of the generated scenario of a number reads as a plan that is generated of this number

@@ -4,7 +4,7 @@ use Rattle.std.specs.Prelude.{ℕ, List, map}
 use Rattle.std.specs.List.{range_with_len}
 use Rattle.scenario.specs.declared.op.Op.{Op}
 use Rattle.scenario.specs.declared.op.Op.TheVariants.{WriteStamp}
-use Rattle.generator_text.specs.Draws.{volume_at, block_at, stamp_at}
+use Rattle.generated.specs.Draws.{volume_at, block_at, stamp_at}
 
 -- line k of lane i
 abbrev pub write_at : ℕ → ℕ → ℕ → Op

@@ -13,11 +13,11 @@ ghost use Rattle.vss_model.specs.Trail.{acts, is_legal, is_complete, faults};
 ghost use Rattle.generated.specs.Scenario.{IsGenerated};
 ghost use Rattle.generated.specs.Plans.{plan_of};
 ghost use Rattle.generated.specs.Smooth.{IsSmooth};
-ghost use Rattle.generator_text.specs.Draws.{volume_at, block_at, stamp_at};
+ghost use Rattle.generated.specs.Draws.{volume_at, block_at, stamp_at};
 ghost use Rattle.generated.specs.EndsWell.{EndsWell};
 ghost use Rattle.generated.specs.Reading.{IsRead};
-ghost use Rattle.generator_text.specs.ScenarioText.{gen_text};
-ghost use Rattle.generator_text.specs.Contents.{final_blocks};
+ghost use Rattle.generated.specs.ScenarioText.{gen_text};
+ghost use Rattle.generated.specs.Contents.{final_blocks};
 
 /// In a smooth scenario each legal and complete trail without fault marks completes all its sets.
 pub fn smooth_runs_complete_their_sets()

@@ -1,6 +1,6 @@
 //! A folder is made under another name, filled, synced, and renamed.
 
-ghost use Rattle.std.specs.Prelude.{◌≤◌, OnOk};
+ghost use Rattle.std.specs.Prelude.{◌<◌, ◌≤◌, OnOk};
 
 use crate::ended::of_folder;
 use crate::file_input::FileInput;
@@ -9,16 +9,18 @@ use crate::job::{
     Job, before_try, check_all, compare, names_of, overwrite, say_changed, wait_out_all,
 };
 use crate::naming::{check_once, may_name};
-use crate::new_store::{blocks_of, new_store};
+use crate::new_store::{blocks_of, new_store, sum_of};
 use crate::opened::{Files, close, take_apart};
-use crate::own_file::new_folder;
+use crate::own_file::{new_folder, parent_of};
 use crate::pair::Pair;
 use crate::program::Program;
 use crate::status::Status;
 use crate::way::Way;
 use block_data::BLOCK;
+use image_device::SumTable;
 use std::fs;
 use std::io::ErrorKind;
+use std::sync::Arc;
 use vss_names::{MOST_BLOCKS, MOST_SLOTS, MOST_VOLUMES, Text};
 use write_history::Evicted;
 
@@ -33,11 +35,32 @@ fn check_pair(
     check_once(program, path, pair, earlier)?;
     let name = pair.name;
     match pair.blocks {
-        Some(blocks) if blocks == 0 || blocks > MOST_BLOCKS => Err(
-            ended!(*program, Refused; "{name}: blocks: {blocks}, and a volume has 1 to {MOST_BLOCKS}"),
-        ),
-        _ => Ok(()),
+        Some(blocks) => check_blocks(program, name, blocks),
+        None => Ok(()),
     }
+}
+
+/// That a volume may have so many blocks.
+pub fn check_blocks(program: &Program, name: &str, blocks: u32) -> Result<(), Status>
+    ensures some { OnOk result (0 < blocks) }
+    ensures few { OnOk result (blocks ≤ 65536) }
+{
+    if blocks == 0 || blocks > MOST_BLOCKS {
+        return Err(
+            ended!(*program, Refused; "{name}: blocks: {blocks}, and a volume has 1 to {MOST_BLOCKS}"),
+        );
+    }
+    Ok(())
+}
+
+/// That an area may have so many slots.
+pub fn check_slots(program: &Program, slots: u32) -> Result<(), Status>
+    ensures { OnOk result (slots ≤ MOST_SLOTS) }
+{
+    if slots > MOST_SLOTS {
+        return Err(ended!(*program, Refused; "SLOTS {slots}: at most {MOST_SLOTS}"));
+    }
+    Ok(())
 }
 
 /// What is refused of the words alone.
@@ -47,9 +70,7 @@ fn check_words(program: &Program, path: &str, slots: u32, pairs: &[Pair<'_>]) ->
     for (place, pair) in pairs.iter().enumerate() {
         check_pair(program, path, *pair, &pairs[..place])?;
     }
-    if slots > MOST_SLOTS {
-        return Err(ended!(*program, Refused; "SLOTS {slots}: at most {MOST_SLOTS}"));
-    }
+    check_slots(program, slots)?;
     let volumes = pairs.len();
     if volumes > MOST_VOLUMES as usize {
         return Err(ended!(*program, Refused; "volumes: {volumes}, at most {MOST_VOLUMES}"));
@@ -58,7 +79,7 @@ fn check_words(program: &Program, path: &str, slots: u32, pairs: &[Pair<'_>]) ->
 }
 
 /// How many blocks the volume of a pair has: those that were given, or as many as its file needs, with its length.
-fn blocks_for(program: &Program, pair: Pair<'_>, length: u64) -> Result<u32, Status> {
+pub fn blocks_for(program: &Program, pair: Pair<'_>, length: u64) -> Result<u32, Status> {
     if let Some(blocks) = pair.blocks {
         return Ok(blocks);
     }
@@ -116,15 +137,6 @@ fn fill(folder: &Folder, slots: u32, jobs: &mut [Job<'_>]) -> Result<(), Status>
     }
 }
 
-/// The folder in which a path lies.
-fn parent_of(path: &str) -> &str {
-    match path.rsplit_once('/') {
-        None => ".",
-        Some(("", _)) => "/",
-        Some((parent, _)) => parent,
-    }
-}
-
 /// Fills a folder that is held under its new name, and gives it its own.
 fn make(folder: &Folder, path: &str, slots: u32, jobs: &mut [Job<'_>]) -> Result<(), Status>
     requires { slots ≤ MOST_SLOTS }
@@ -163,11 +175,18 @@ pub fn make_new(
 ) -> Result<(), Status>
     requires { slots ≤ MOST_SLOTS }
 {
-    let _blocks = blocks_of(program, jobs)?;
+    let blocks = blocks_of(program, jobs)?;
+    let sums = SumTable::new(
+        program.alloc(),
+        (sum_of(&blocks) as usize).saturating_add(slots as usize),
+    )?;
     let new = format!(in program.alloc(); "{path}.new")?;
     create_new(program, new.as_str())?;
     let made = match Folder::hold(program, new.as_str()) {
-        Ok(folder) => make(&folder, path, slots, jobs),
+        Ok(mut folder) => {
+            folder.sums = Some(Arc::new(program.alloc(), sums)?);
+            make(&folder, path, slots, jobs)
+        }
         Err(status) => Err(status),
     };
     if made.is_err() {
@@ -234,7 +253,7 @@ pub fn create(
     check_words(program, path, slots, pairs)?;
     if fs::symlink_metadata(&program.rt, path).is_ok() {
         return Err(
-            ended!(*program, Refused; "{path}: is there already; ./images update goes on with one"),
+            ended!(*program, Refused; "{path}: is there already; create takes a new name, and ./images update a folder of images"),
         );
     }
     create_in_tries(program, path, slots, pairs, tries)

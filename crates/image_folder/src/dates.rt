@@ -52,15 +52,19 @@ pub fn dated_in(lines: &str, set: u32) -> Option<Dated<'_>> {
     None
 }
 
+/// Whether these are lines of sets, one at least.
+fn are_dates(lines: &str) -> bool {
+    lines.ends_with("\n") && lines.lines().all(|line| parted(line).is_some())
+}
+
 impl Folder {
     /// The lines of all sets, if there are any: sets of an earlier program have none.
     pub fn dates(&self) -> Result<String, Status> {
-        let alloc = self.program.alloc();
-        let Some(bytes) = self.small(DATES)? else {
-            return Ok(String::new(alloc));
-        };
-        let text = std::str::from_utf8(&bytes).unwrap_or("");
-        Ok(String::from_str(alloc, text)?)
+        match self.list(DATES)? {
+            None => Ok(String::new(self.program.alloc())),
+            Some(lines) if are_dates(lines.as_str()) => Ok(lines),
+            Some(_) => Err(self.no_list(DATES)),
+        }
     }
 
     /// Notes when a set is cut, before it lasts. Of all others only those that stand, by rising numbers, keep their lines.
@@ -68,15 +72,14 @@ impl Folder {
         let old = self.dates()?;
         let mut new = String::new(self.program.alloc());
         for line in old.lines() {
-            let of = match parted(line) {
-                Some((of, _)) => of,
-                None => set,
-            };
-            if of != set && standing.binary_search(&of).is_ok() {
-                write!(new, "{line}\n")?;
+            match parted(line) {
+                Some((of, _)) if of != set && standing.binary_search(&of).is_ok() => {
+                    write!(new, "{line}\n")?;
+                }
+                _ => {}
             }
         }
         write!(new, "{set} {} {note}\n", seconds_now(&self.program))?;
-        self.put_small(DATES, new.as_str())
+        self.put_list(DATES, new.as_str())
     }
 }

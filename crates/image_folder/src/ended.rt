@@ -21,7 +21,11 @@ pub fn said<D: Display + Drop>(program: &Program, status: Status, line: D) -> St
 pub fn say<D: Display + Drop>(program: &Program, text: D) -> Result<(), Status> {
     match program.rt.print(text) {
         Ok(()) => Ok(()),
-        Err(_) => Err(said(program, Status::WriteFault, "write fault")),
+        Err(_) => Err(said(
+            program,
+            Status::WriteFault,
+            "write fault; is the disk full, or a pipe closed?",
+        )),
     }
 }
 

@@ -1,4 +1,4 @@
-ghost use Rattle.std.specs.Prelude.{◌≡◌, ◌<◌, ◌≤◌, length};
+ghost use Rattle.std.specs.Prelude.{◌≡◌, ◌<◌, ◌≤◌, None, length, OnOk};
 ghost use Rattle.vss_names.specs.Faults.{HasCause};
 
 use crate::own_file::is_same;
@@ -13,7 +13,7 @@ use std::io::ErrorKind;
 use std::os::unix::fs::{FileExt, MetadataExt};
 use std::time::{Duration, SystemTime, UNIX_EPOCH};
 use std::{fs, io, thread};
-use volume_device::Device;
+use volume_device::{Device, FileDevice};
 use vss_names::Failed;
 
 /// The word for a file that is not there.
@@ -32,6 +32,9 @@ const ADVICE: &str =
 /// For how many milliseconds the system may give the same time to two changes of a file, and two more for what is rounded.
 const TICK: u64 = 12;
 
+/// The same on a file system that keeps whole seconds, or each second one.
+const COARSE_TICK: u64 = 2000 + TICK;
+
 /// A file that was named, as the blocks of a volume: its bytes, zeros, and its length in the last eight bytes
 /// (`image_store/specs/FileBytes.antt`). It is read alone, and as long as it was when it was opened.
 #[derive(Drop)]
@@ -48,6 +51,8 @@ pub struct FileInput<'a> {
     /// How long it was when it was seen to have changed.
     changed: Option<u64>,
     pub progress: Progress,
+    /// What was captured of it, as its blocks: then these are read in place of the file.
+    pub spool: Option<FileDevice>,
 }
 
 /// Ends a block of which the first `have` bytes are the file's: zeros, and in the last block of the volume the file's length in bytes.
@@ -77,6 +82,15 @@ fn millis_of(seconds: u64, nanos: u64) -> u64 {
         .saturating_add(nanos / 1_000_000)
 }
 
+/// For how many milliseconds two changes of a file may have the same time, by the time of its last one.
+fn tick_of(found: &Metadata) -> u64 {
+    if found.ctime_nsec() == 0 {
+        COARSE_TICK
+    } else {
+        TICK
+    }
+}
+
 /// Whether a file changed so short a time ago that the next change of it may have the same time.
 fn is_fresh(program: &Program, found: &Metadata) -> bool {
     let Ok(now) = SystemTime::now(&program.rt) else {
@@ -90,7 +104,7 @@ fn is_fresh(program: &Program, found: &Metadata) -> bool {
         u64::try_from(found.ctime()).unwrap_or(0),
         u64::try_from(found.ctime_nsec()).unwrap_or(0),
     );
-    now.saturating_sub(changed) < TICK && changed.saturating_sub(now) < TICK
+    now.saturating_sub(changed) < tick_of(found) && changed.saturating_sub(now) < tick_of(found)
 }
 
 /// Opens a file that was named, if it is one: nobody waits for the other end of a pipe.
@@ -137,6 +151,16 @@ fn look_again(
     Ok((!is_there || !is_unchanged(found, &now)).then_some(now.len()))
 }
 
+/// Reads a block of what was captured, if it has so many.
+fn read_spool(spool: &mut FileDevice, index: u32, out: &mut [u8]) -> io::Result<()>
+    requires { length out.old ≡ BLOCK }
+{
+    if index < spool.blocks() && spool.read_into(index, out).is_ok() {
+        return Ok(());
+    }
+    Err(io::Error::from(ErrorKind::UnexpectedEof))
+}
+
 impl<'a> FileInput<'a> {
     /// The file of a path, as yet of no blocks; `-` is a file that is not there.
     pub fn open(program: &Program, path: &'a str) -> Result<FileInput<'a>, Status> {
@@ -154,6 +178,7 @@ impl<'a> FileInput<'a> {
             last: None,
             changed: None,
             progress: Progress::new(program, "compared", 0),
+            spool: None,
         })
     }
 
@@ -225,7 +250,7 @@ impl<'a> FileInput<'a> {
     pub fn wait_out(&self) {
         if let Some((_, found)) = &self.source {
             if is_fresh(&self.program, found) {
-                thread::sleep(&self.program.rt, Duration::from_millis(TICK));
+                thread::sleep(&self.program.rt, Duration::from_millis(tick_of(found)));
             }
         }
     }
@@ -261,8 +286,13 @@ impl<'a> FileInput<'a> {
 
     /// Ends a pass: what is said of one that failed, of a read of the file with this behind it, or of a device of the folder. A file that ends
     /// early changed.
-    pub fn end(&mut self, fault: Option<PassFault>, more: &str) -> Result<(), Status> {
+    pub fn end(&mut self, fault: Option<PassFault>, more: &str) -> Result<(), Status>
+        ensures { OnOk result (fault ≡ None) }
+    {
         self.progress.clear();
+        if fault.is_some() && self.spool.is_some() {
+            return Err(Status::DeviceFault);
+        }
         match (fault, &self.last) {
             (None, _) => Ok(()),
             (Some(PassFault::Input), Some(error)) if error.kind() != ErrorKind::UnexpectedEof => {
@@ -326,6 +356,10 @@ impl<'a> Device for FileInput<'a> {
 
     fn read_into(&mut self, index: u32, out: &mut [u8]) -> Result<(), Failed> {
         self.progress.step(1);
+        if let Some(spool) = &mut self.spool {
+            let done = read_spool(spool, index, out);
+            return self.outcome(done);
+        }
         let done = self.read_part(index, out);
         self.outcome(done)
     }

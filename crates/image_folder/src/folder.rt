@@ -1,20 +1,19 @@
-ghost use Rattle.std.specs.Prelude.{◌≡◌, ◌≤◌, length};
+ghost use Rattle.std.specs.Prelude.{◌≤◌};
 
 use crate::ended::of_folder;
-use crate::marker::sealed;
-use crate::own_file::{all_of, new_file, own_at, own_file};
+use crate::marker::{lines_in, sealed};
+use crate::own_file::{all_of, is_same, new_file, own_at, own_file, parent_of};
 use crate::program::Program;
+use crate::state_file::{Front, write_state, write_whole};
 use crate::status::Status;
-use crate::way::Way;
-use block_data::{BLOCK, BlockBuf, Hasher};
 use diff_area::pages_for;
+use image_device::SumTable;
 use image_order::{Name, StateFolder};
-use std::alloc::AllocError;
-use std::fs::{File, TryLockError};
-use std::io::{ErrorKind, Write};
-use std::os::unix::fs::FileExt;
-use std::time::Duration;
-use std::{fs, io, thread};
+use std::alloc::{AllocError, Global};
+use std::fs::File;
+use std::io::ErrorKind;
+use std::sync::Arc;
+use std::{fs, io};
 use volume_device::FileDevice;
 use vss_names::MOST_SLOTS;
 
@@ -36,9 +35,6 @@ pub const DATES: &str = "images.dates";
 /// What becomes the state's file by a rename.
 const STATE_NEW: &str = "images.state.new";
 
-/// How long it waits between two looks at a lock, in milliseconds.
-const PAUSE: u64 = 100;
-
 /// The most bytes of a marker, and of the list of what was brought together.
 const MOST_SMALL: u64 = 8192;
 
@@ -50,51 +46,23 @@ const MOST_DATES: u64 = 1 << 24;
 pub struct Folder {
     pub program: Program,
     pub path: String,
-    held: File,
+    pub held: File,
+    /// The sums that the next state has, if it is to have some.
+    pub sums: Option<Arc<SumTable, Global>>,
+    /// The front that the next state has, if it is not that of the area's file.
+    pub front: Option<Vec<u8>>,
+    /// What was written aside, until it is synced.
+    aside: Option<File>,
+    /// The state's file, if another process may write meanwhile. While it is open no other file is taken for it.
+    pub beside: Option<File>,
 }
 
-/// Writes a state: a head, so many blocks of the front of the area's file, and the digest of both. All of it lasts then.
-fn write_parts(
-    file: &mut File,
-    block: &mut [u8],
-    head: &[u8],
-    area: &File,
-    front: u32,
-) -> io::Result<()>
-    requires { length block.old ≡ BLOCK }
-{
-    let mut hasher = Hasher::new();
-    hasher.add(head);
-    file.write_all(head)?;
-    for index in 0..front {
-        area.read_exact_at(block, u64::from(index) * BLOCK as u64)?;
-        hasher.add(block);
-        file.write_all(block)?;
+/// The name of the file that a name of `image_order` is.
+fn file_name(name: Name) -> &'static str {
+    match name {
+        Name::State => STATE,
+        Name::Marker => MARKER,
     }
-    file.write_all(hasher.finish().as_slice())?;
-    file.sync_all()
-}
-
-/// Makes the file of a state.
-fn write_state(
-    program: &Program,
-    path: &str,
-    head: &[u8],
-    area: &File,
-    front: u32,
-) -> io::Result<()> {
-    let mut file = new_file(program, path)?;
-    match BlockBuf::zeroed(program.alloc()) {
-        Ok(mut block) => write_parts(&mut file, block.bytes_mut(), head, area, front),
-        Err(_) => Err(io::Error::from(ErrorKind::OutOfMemory)),
-    }
-}
-
-/// Makes a file of these bytes, and sees that it lasts.
-fn write_whole(program: &Program, path: &str, bytes: &[u8]) -> io::Result<()> {
-    let mut file = new_file(program, path)?;
-    file.write_all(bytes)?;
-    file.sync_all()
 }
 
 /// The bytes of a small file, where it is there; none of what cannot be one.
@@ -108,57 +76,7 @@ fn small_at(program: &Program, path: &str, most: u64) -> Result<Option<Vec<u8>>,
     Ok(Some(of_folder(program, path, "could not be read", bytes)?))
 }
 
-/// That a folder has a state.
-fn check_state(program: &Program, path: &str) -> Result<(), Status> {
-    let state = format!(in program.alloc(); "{path}/{STATE}")?;
-    match fs::symlink_metadata(&program.rt, state.as_str()) {
-        Ok(_) => Ok(()),
-        Err(error) => Err(
-            ended!(*program, Refused; "{path}: no folder of images ({STATE}: {error}); ./images create makes one"),
-        ),
-    }
-}
-
 impl Folder {
-    /// Opens a folder of images that is there, and locks it. For one that another process has it waits so many seconds.
-    pub fn open(program: &Program, path: &str, way: Way, wait: u32) -> Result<Folder, Status> {
-        check_state(program, path)?;
-        let folder = Folder::hold(program, path)?;
-        for _time in 0..u64::from(wait) * 10 {
-            if !matches!(folder.try_lock(way), Err(TryLockError::WouldBlock)) {
-                break;
-            }
-            thread::sleep(&program.rt, Duration::from_millis(PAUSE));
-        }
-        folder.lock(way)?;
-        Ok(folder)
-    }
-
-    /// Tries to lock it: alone to write, beside others to read.
-    fn try_lock(&self, way: Way) -> Result<(), TryLockError> {
-        match way {
-            Way::Writing => self.held.try_lock(),
-            _ => self.held.try_lock_shared(),
-        }
-    }
-
-    /// Locks it.
-    pub fn lock(&self, way: Way) -> Result<(), Status> {
-        match self.try_lock(way) {
-            Ok(()) => Ok(()),
-            Err(TryLockError::WouldBlock) => {
-                Err(
-                    ended!(self.program, InUse; "{}: in use by another process; images --wait SECONDS waits", self.path),
-                )
-            }
-            Err(TryLockError::Error(error)) => {
-                Err(
-                    ended!(self.program, FolderFault; "{}: could not be locked: {error}", self.path),
-                )
-            }
-        }
-    }
-
     /// Holds a folder.
     pub fn hold(program: &Program, path: &str) -> Result<Folder, Status> {
         let held = File::open(&program.rt, path);
@@ -167,7 +85,19 @@ impl Folder {
             program: *program,
             path: String::from_str(program.alloc(), path)?,
             held,
+            sums: None,
+            front: None,
+            aside: None,
+            beside: None,
         })
+    }
+
+    /// The table of the sums that the next state has, if it is to have some.
+    pub fn table(&self) -> Result<Option<Arc<SumTable, Global>>, AllocError> {
+        match &self.sums {
+            Some(table) => Ok(Some(Arc::try_clone(table)?)),
+            None => Ok(None),
+        }
     }
 
     /// The path of a file in it.
@@ -190,28 +120,57 @@ impl Folder {
         small_at(&self.program, self.path_of(name)?.as_str(), most)
     }
 
-    /// Makes a small file of it, and sees that it lasts.
-    pub fn put_small(&self, name: &str, text: &str) -> Result<(), Status> {
+    /// The lines of a list of it, where it is there; none of what cannot be one.
+    pub fn list(&self, name: &str) -> Result<Option<String>, Status> {
+        let Some(bytes) = self.small(name)? else {
+            return Ok(None);
+        };
+        let (alloc, text) = (
+            self.program.alloc(),
+            std::str::from_utf8(&bytes).unwrap_or(""),
+        );
+        Ok(Some(String::from_str(alloc, lines_in(alloc, text)?)?))
+    }
+
+    /// Says that a list of it is damaged.
+    pub fn no_list(&self, name: &str) -> Status {
+        ended!(self.program, Damaged; "{}/{name}: digest: another; images are not touched by it: look at it, and remove it", self.path)
+    }
+
+    /// Whether the file of a path lies in it.
+    pub fn has_in_it(&self, path: &str) -> io::Result<bool> {
+        let parent = fs::metadata(&self.program.rt, parent_of(path))?;
+        Ok(is_same(&parent, &self.held.metadata()?))
+    }
+
+    /// Makes a list of it, and sees that it lasts.
+    pub fn put_list(&self, name: &str, lines: &str) -> Result<(), Status> {
+        let text = sealed(self.program.alloc(), lines)?;
         let new = format!(in self.program.alloc(); "{}/{name}.new", self.path)?;
         let made = write_whole(&self.program, new.as_str(), text.as_bytes());
-        of_folder(&self.program, new.as_str(), "could not be written", made)?;
+        let file = of_folder(&self.program, new.as_str(), "could not be written", made)?;
+        self.sync_new(&file, name)?;
         self.put(name)
     }
 
-    /// Makes the file of a state: the head, and the header and the table of an area of so many slots, as the area's file has them. The area was
-    /// synced before.
-    fn write_state(&self, head: &[u8], slots: u32) -> Result<(), Status>
+    /// Makes the file of a state: the head, and the header and the table of an area of so many slots, as the area's file has them if they were
+    /// not given. The area was synced before.
+    fn new_state(&self, head: &[u8], slots: u32) -> Result<File, Status>
         requires { slots ≤ MOST_SLOTS }
     {
         let path = self.path_of(AREA)?;
         let (area, _) = own_file(&self.program, path.as_str(), false, "could not be opened")?;
         let new = self.path_of(STATE_NEW)?;
+        let front = match &self.front {
+            Some(front) => Front::Given(front),
+            None => Front::OfFile(&area, 1 + pages_for(slots)),
+        };
         let made = write_state(
             &self.program,
             new.as_str(),
             head,
-            &area,
-            1 + pages_for(slots),
+            front,
+            self.sums.as_deref(),
         );
         of_folder(&self.program, new.as_str(), "could not be written", made)
     }
@@ -220,8 +179,20 @@ impl Folder {
     pub fn commit(&self, head: &[u8], slots: u32) -> Result<(), Status>
         requires { slots ≤ MOST_SLOTS }
     {
-        self.write_state(head, slots)?;
+        let file = self.new_state(head, slots)?;
+        self.sync_new(&file, STATE)?;
         self.put(STATE)
+    }
+
+    /// Sees that the bytes of the file that was made for a name last.
+    fn sync_new(&self, file: &File, name: &str) -> Result<(), Status> {
+        let new = format!(in self.program.alloc(); "{}/{name}.new", self.path)?;
+        of_folder(
+            &self.program,
+            new.as_str(),
+            "could not be written",
+            file.sync_all(),
+        )
     }
 
     /// A device of so many blocks over a new file of it, which has no name any more: it is gone once it is closed.
@@ -261,28 +232,42 @@ impl Folder {
 
 /// It tells nothing: what the system's files keep is the trusted edge.
 impl StateFolder<Status> for Folder {
+    ghost use Rattle.std.specs.Prelude.{◌≢◌};
+    ghost use Rattle.image_folder.specs.declared.status.Status.{Status as StatusOf};
+
     ghost found = { λ f name file. ⊥ };
 
     ghost now = { λ f name file. ⊥ };
 
+    ghost written = { λ f name file. ⊥ };
+
     ghost aside = { λ f name file. ⊥ };
 
-    fn make_state(&mut self, head: &[u8], slots: u32) -> Result<(), Status> {
-        self.write_state(head, slots.min(MOST_SLOTS))
+    ghost is_known = { λ fault. fault ≢ StatusOf.Unsettled };
+
+    fn write_state(&mut self, head: &[u8], slots: u32) -> Result<(), Status> {
+        self.aside = Some(self.new_state(head, slots.min(MOST_SLOTS))?);
+        Ok(())
     }
 
-    fn make_marker(&mut self, lines: &str) -> Result<(), Status> {
+    fn write_marker(&mut self, lines: &str) -> Result<(), Status> {
         let text = sealed(self.program.alloc(), lines)?;
         let new = format!(in self.program.alloc(); "{}/{MARKER}.new", self.path)?;
         let made = write_whole(&self.program, new.as_str(), text.as_bytes());
-        of_folder(&self.program, new.as_str(), "could not be written", made)
+        let file = of_folder(&self.program, new.as_str(), "could not be written", made)?;
+        self.aside = Some(file);
+        Ok(())
+    }
+
+    fn sync_aside(&mut self, name: Name) -> Result<(), Status> {
+        match self.aside.take() {
+            Some(file) => self.sync_new(&file, file_name(name)),
+            None => Err(Status::DeviceFault),
+        }
     }
 
     fn rename(&mut self, name: Name) -> Result<(), Status> {
-        self.rename_to(match name {
-            Name::State => STATE,
-            Name::Marker => MARKER,
-        })
+        self.rename_to(file_name(name))
     }
 
     fn remove_marker(&mut self) -> Result<(), Status> {

@@ -11,7 +11,7 @@ use crate::opened::Files;
 use crate::program::Program;
 use crate::progress::Progress;
 use crate::status::Status;
-use crate::store_device::StoreDevice;
+use image_device::StoreDevice;
 use image_store::{Jobs, PassFault, Report};
 use std::alloc::AllocError;
 use write_history::Evicted;
@@ -28,13 +28,13 @@ pub struct FileReport {
 
 impl FileReport {
     /// That of an update.
-    pub fn new(folder: &Folder, least: u32) -> Result<FileReport, AllocError> {
+    pub fn new(folder: &Folder, least: u32, says_torn: bool) -> Result<FileReport, AllocError> {
         let program = folder.program;
         Ok(FileReport {
             program,
             path: String::from_str(program.alloc(), folder.path.as_str())?,
             least,
-            says_torn: true,
+            says_torn,
         })
     }
 

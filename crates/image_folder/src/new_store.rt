@@ -10,17 +10,21 @@ use crate::opened::Files;
 use crate::own_file::new_file;
 use crate::program::Program;
 use crate::status::Status;
-use crate::store_device::StoreDevice;
 use block_data::BLOCK;
 use diff_area::{Area, pages_for};
+use image_device::{KeptSums, StoreDevice};
 use image_store::{NewFault, Store};
 use std::fs::File;
 use std::io;
-use volume_device::{Device, FileCall, FileDevice, FileFault};
+use volume_device::{Device, FileCall, FileFault};
 use vss_names::{MOST_BLOCKS, MOST_SLOTS, MOST_VOLUMES, Text};
 
 /// A new file of so many zero blocks, or the call that failed.
-fn new_blocks(program: &Program, path: &str, blocks: u32) -> Result<File, (FileCall, io::Error)> {
+pub fn new_blocks(
+    program: &Program,
+    path: &str,
+    blocks: u32,
+) -> Result<File, (FileCall, io::Error)> {
     let file = match new_file(program, path) {
         Ok(file) => file,
         Err(error) => return Err((FileCall::Create, error)),
@@ -31,21 +35,28 @@ fn new_blocks(program: &Program, path: &str, blocks: u32) -> Result<File, (FileC
     }
 }
 
-/// A device over a new file of zeros.
-fn new_device(program: &Program, path: String, blocks: u32) -> Result<StoreDevice, Status>
+/// A device over a new file of zeros. Its sums go to the folder's table from a place on, but for those of so many first blocks.
+fn new_device(
+    folder: &Folder,
+    path: String,
+    blocks: u32,
+    first: usize,
+    skipped: u32,
+) -> Result<StoreDevice, Status>
     ensures { IfOk result (λ device. ⟦<StoreDevice as Device>⟧.size device ≡ blocks) }
 {
+    let (program, alloc) = (&folder.program, folder.program.alloc());
     match new_blocks(program, path.as_str(), blocks) {
-        Ok(file) => Ok(StoreDevice::new(
-            FileDevice::new(file, path, blocks),
-            Vec::new(program.alloc()),
-        )),
+        Ok(file) => {
+            let sums = KeptSums::of_zeros(alloc, blocks, folder.table()?, first, skipped as usize)?;
+            Ok(StoreDevice::new(path, Ok(file), blocks, Vec::new(alloc), sums)?)
+        }
         Err((call, error)) => Err(by_device(program, Some(FileFault { path, call, error }))),
     }
 }
 
 /// The most blocks of all volumes.
-const MOST_IN_ALL: u64 = 131_072;
+pub const MOST_IN_ALL: u64 = 131_072;
 
 /// Whether volumes may have so many blocks.
 fn are_volumes(blocks: &[u32]) -> bool
@@ -58,7 +69,7 @@ fn are_volumes(blocks: &[u32]) -> bool
 }
 
 /// How many blocks there are in all.
-fn sum_of(blocks: &[u32]) -> u64 {
+pub fn sum_of(blocks: &[u32]) -> u64 {
     let mut sum = 0u64;
     for one in blocks {
         sum = sum.saturating_add(u64::from(*one));
@@ -89,8 +100,8 @@ fn new_area(folder: &Folder, slots: u32, blocks: &[u32]) -> Result<Area<StoreDev
     ensures volumes { IfOk result (λ area. area.volumes ≡ blocks.now) }
     ensures records { IfOk result (λ area. area.records ≡ replicate slots free) }
 {
-    let path = folder.path_of(AREA)?;
-    let device = new_device(&folder.program, path, 1 + pages_for(slots) + slots)?;
+    let (path, front) = (folder.path_of(AREA)?, 1 + pages_for(slots));
+    let device = new_device(folder, path, front + slots, sum_of(blocks) as usize, front)?;
     match Area::open_new(folder.program.alloc(), device, slots, blocks) {
         Ok(area) => Ok(area),
         Err(_) => Err(Status::OutOfMemory),
@@ -102,9 +113,11 @@ fn new_devices(folder: &Folder, jobs: &[Job<'_>]) -> Result<Vec<StoreDevice>, St
     ensures { IfOk result (λ devices. map ⟦<StoreDevice as Device>⟧.size devices.items ≡ map (λ job. job.input.blocks) jobs.now) }
 {
     let mut devices = Vec::new(folder.program.alloc());
+    let mut first = 0usize;
     for job in jobs {
-        let path = folder.path_of_volume(job.input.name)?;
-        devices.push(new_device(&folder.program, path, job.input.blocks)?)?;
+        let (path, blocks) = (folder.path_of_volume(job.input.name)?, job.input.blocks);
+        devices.push(new_device(folder, path, blocks, first, 0)?)?;
+        first = first.saturating_add(blocks as usize);
     }
     Ok(devices)
 }

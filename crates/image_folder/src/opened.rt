@@ -2,25 +2,27 @@
 
 ghost use Rattle.std.specs.Prelude.{◌≡◌, ◌<◌, length};
 
-use crate::device_file::{add_devices, open_device};
-use crate::ended::{by_device, say};
-use crate::folder::{AREA, Folder, MARKER, STATE};
+use crate::device_file::Opening;
+use crate::ended::say;
+use crate::folder::{Folder, MARKER, STATE};
 use crate::job::{Job, sets_of};
 use crate::jobs::{FileReport, no_jobs};
+use crate::left::clear_left;
 use crate::marker::Marker;
 use crate::naming::name_in;
 use crate::program::Program;
-use crate::state::State;
+use crate::state::{State, blocks_in};
 use crate::status::Status;
-use crate::store_device::StoreDevice;
+use crate::sum_fault::{fault_of, say_other};
 use crate::way::Way;
 use diff_area::AreaFault;
-use image_order::{Copied, StateFolder, commit, mark};
+use image_device::{StoreDevice, SumTable};
+use image_order::{StateFolder, commit, mark, overwrite_marked};
 use image_store::{
-    Head, Jobs, OpenFault, Refused, Report, Store, keep_in_order, settle_in_order, update_in_order,
+    Head, Jobs, OpenFault, Refused, Store, keep_in_order, settle_in_order, update_in_order,
 };
 use std::mem;
-use write_history::Evicted;
+use std::sync::Arc;
 
 /// The volumes and images of a folder, over its files.
 pub type Files = Store<StoreDevice>;
@@ -48,7 +50,7 @@ fn refusal(folder: &Folder, refused: Refused<StoreDevice>) -> Status {
         OpenFault::OutOfMemory => Status::OutOfMemory,
         OpenFault::Devices { .. } => Status::Damaged,
         OpenFault::Area(AreaFault::Device) => match area {
-            Some(area) => by_device(&folder.program, area.into_fault()),
+            Some(area) => fault_of(&folder.program, area).unwrap_or(Status::DeviceFault),
             None => Status::DeviceFault,
         },
         fault => ended!(folder.program, Damaged; "{}/{STATE}: {fault}", folder.path),
@@ -68,34 +70,31 @@ fn take_up(
     }
 }
 
-/// The store of a folder.
-fn store_of(folder: &Folder, way: Way) -> Result<Files, Status> {
-    let State {
-        head,
-        front,
-        area_blocks,
-    } = State::read(folder)?;
-    let mut devices = Vec::new(folder.program.alloc());
-    add_devices(folder, head.catalog(), way, &mut devices)?;
-    let area = open_device(
-        &folder.program,
-        folder.path_of(AREA)?,
-        way,
-        area_blocks,
-        front,
-    )?;
-    take_up(folder, devices, area, &head)
+/// The store of a folder that is opened.
+fn store_of(opening: Opening<'_>) -> Result<Files, Status> {
+    opening.note_lack();
+    let mut devices = Vec::new(opening.folder.program.alloc());
+    opening.add_devices(&mut devices)?;
+    let area = opening.area_device(&devices)?;
+    take_up(opening.folder, devices, area, &opening.state.head)
 }
 
-/// Says the first device that failed.
-fn first_fault(program: &Program, devices: Vec<StoreDevice>, area: StoreDevice) -> Status {
-    for device in devices {
-        let fault = device.into_fault();
-        if fault.is_some() {
-            return by_device(program, fault);
+/// Says the first device that failed; a block with another sum comes first.
+pub fn first_fault(program: &Program, devices: Vec<StoreDevice>, area: StoreDevice) -> Status {
+    for device in &devices {
+        if let Some(index) = device.other_sum() {
+            return say_other(program, device, index, &devices);
         }
     }
-    by_device(program, area.into_fault())
+    if let Some(index) = area.other_sum() {
+        return say_other(program, &area, index, &devices);
+    }
+    for device in devices {
+        if let Some(status) = fault_of(program, device) {
+            return status;
+        }
+    }
+    fault_of(program, area).unwrap_or(Status::DeviceFault)
 }
 
 /// Says the device that failed, if one did: what is left to say of a call that was not done.
@@ -116,20 +115,41 @@ pub fn close(program: &Program, store: Files) -> Result<(), Status> {
     }
 }
 
-/// Ends a call that was done and has a marker.
-fn end_marked(folder: &mut Folder, store: &mut Files) -> Result<(), Status> {
+/// Ends a call that was done and has a marker. If blocks of volumes were written, their sums are committed first.
+fn end_marked(folder: &mut Folder, store: &mut Files, is_torn: bool) -> Result<(), Status> {
     let none = no_jobs(folder.program);
+    if is_torn {
+        commit(folder, store, &none)?;
+    }
     settle_in_order(folder, store, &none)
+}
+
+/// The table of sums of a folder that is opened to be written.
+fn table_of(program: &Program, state: &State) -> Result<SumTable, Status> {
+    let sums = blocks_in(state.head.catalog()).saturating_add(state.slots() as usize);
+    let table = SumTable::new(program.alloc(), sums)?;
+    table.take(&state.sums);
+    Ok(table)
 }
 
 /// Opens a folder. For one that another process has it waits so many seconds.
 pub fn open(program: &Program, path: &str, way: Way, wait: u32) -> Result<Opened, Status> {
-    let folder = Folder::open(program, path, way, wait)?;
-    let store = store_of(&folder, way)?;
+    let mut folder = Folder::open(program, path, way, wait)?;
+    let state = State::read(&folder)?;
     let marker = match folder.small(MARKER)? {
-        Some(bytes) => Some(Marker::of(program.alloc(), &bytes, &store)?),
+        Some(bytes) => Some(Marker::of(program.alloc(), &bytes, state.head.catalog())?),
         None => None,
     };
+    if let Way::Writing = way {
+        clear_left(&folder, marker.as_ref(), state.head.catalog())?;
+        folder.sums = Some(Arc::new(program.alloc(), table_of(program, &state)?)?);
+    }
+    let store = store_of(Opening {
+        folder: &folder,
+        state: &state,
+        way,
+        marker: marker.as_ref(),
+    })?;
     Ok(Opened {
         folder,
         store,
@@ -163,8 +183,12 @@ impl Opened {
         Ok(())
     }
 
-    /// Refuses a call on a folder in which volumes are in transit that it does not bring to other contents: those of these names it does.
+    /// Refuses a call on a folder in which volumes are in transit that it does not bring to other contents: those of these names it does. Beside
+    /// another process the images alone are read, which are right.
     pub fn check_transit(&self, brought: &[&str]) -> Result<(), Status> {
+        if self.folder.is_beside() {
+            return Ok(());
+        }
         let (Folder { program, path, .. }, alloc) = (&self.folder, self.folder.program.alloc());
         let mut names = String::new(alloc);
         self.add_in_transit(brought, &mut names)?;
@@ -195,31 +219,24 @@ impl Opened {
         commit(&mut self.folder, &mut self.store, &none)
     }
 
-    /// Brings volumes to the files of jobs, under a marker of these lines.
-    pub fn overwrite<'a>(&mut self, lines: &str, jobs: &mut Vec<Job<'a>>) -> Result<(), Status> {
+    /// Brings volumes to the files of jobs, under a marker of these lines, or else under that of this call, which is there.
+    pub fn overwrite<'a>(
+        &mut self,
+        lines: Option<&str>,
+        jobs: &mut Vec<Job<'a>>,
+    ) -> Result<(), Status> {
         let (was_torn, alloc) = (self.is_torn, self.folder.program.alloc());
-        let report = FileReport::new(&self.folder, self.least)?;
+        let report = FileReport::new(&self.folder, self.least, lines.is_some())?;
         let mut all = Jobs::new(alloc, mem::replace(jobs, Vec::new(alloc)), report);
         self.is_marked = true;
-        let done = update_in_order(&mut self.folder, &mut self.store, &mut all, lines, was_torn);
+        let (folder, store) = (&mut self.folder, &mut self.store);
+        let done = match lines {
+            Some(lines) => update_in_order(folder, store, &mut all, lines, was_torn),
+            None => overwrite_marked(folder, store, &mut all),
+        };
         self.is_torn = was_torn || all.is_torn;
         *jobs = all.jobs;
         done
-    }
-
-    /// The second pass of one job, without the commit at its end.
-    pub fn copy_ahead(&mut self, job: &mut Job<'_>, gone: &mut Vec<Evicted>) -> Result<(), Status> {
-        let report = FileReport::new(&self.folder, self.least)?;
-        for _round in 0..u32::MAX {
-            let copied: Result<Copied, Status> = job.copy_ahead(&mut self.store, gone, &report);
-            if let Copied::All = copied? {
-                break;
-            }
-            report.check_left(&self.store)?;
-            self.commit()?;
-            report.say_gone(&self.store, gone)?;
-        }
-        Ok(())
     }
 
     /// Ends what was done up to here, where the volumes have what they had. If it failed, and what is committed is known, that is as before
@@ -255,11 +272,13 @@ impl Opened {
             mut store,
             text,
             is_marked,
+            is_torn,
             ..
         } = self;
         let program = folder.program;
         let ended = match done {
-            Ok(()) if is_marked => end_marked(&mut folder, &mut store),
+            Ok(()) if is_marked => end_marked(&mut folder, &mut store, is_torn),
+            Ok(()) | Err(Status::DeviceFault) => folder.end_beside().and(done),
             done => done,
         };
         match ended {

@@ -18,21 +18,35 @@ pub fn is_same(one: &Metadata, other: &Metadata) -> bool {
     one.dev() == other.dev() && one.ino() == other.ino()
 }
 
-/// Opens a file of a folder, if it is one. A link is none, and nor is what took the name of the file meanwhile.
+/// The folder in which a path lies.
+pub fn parent_of(path: &str) -> &str {
+    match path.rsplit_once('/') {
+        None => ".",
+        Some(("", _)) => "/",
+        Some((parent, _)) => parent,
+    }
+}
+
+/// How often a file is looked at whose name another file takes meanwhile.
+const LOOKS: u32 = 100;
+
+/// Opens a file of a folder, if it is one. A link is none.
 pub fn own_at(program: &Program, path: &str, writes: bool) -> io::Result<Option<(File, Metadata)>> {
-    let named = fs::symlink_metadata(&program.rt, path)?;
-    if !named.is_file() {
-        return Ok(None);
+    for _look in 0..LOOKS {
+        let named = fs::symlink_metadata(&program.rt, path)?;
+        if !named.is_file() {
+            break;
+        }
+        let file = File::options()
+            .read(true)
+            .write(writes)
+            .open(&program.rt, path)?;
+        let found = file.metadata()?;
+        if is_same(&named, &found) {
+            return Ok(Some((file, found)));
+        }
     }
-    let file = File::options()
-        .read(true)
-        .write(writes)
-        .open(&program.rt, path)?;
-    let found = file.metadata()?;
-    if !is_same(&named, &found) {
-        return Ok(None);
-    }
-    Ok(Some((file, found)))
+    Ok(None)
 }
 
 /// Opens a file of a folder. Of what cannot be opened, read or written, that is said in these words, as `could not be read`.

@@ -2,6 +2,7 @@
 
 use crate::folder::{Folder, TOGETHER};
 use crate::status::Status;
+use vss_names::is_name;
 
 /// Whether a line has all these names.
 fn has_all(line: &str, names: &[&str]) -> bool {
@@ -38,14 +39,35 @@ fn add_line(names: &[&str], new: &mut String) -> Result<(), Status> {
     Ok(new.push('\n')?)
 }
 
+/// Whether these are lines of names, one at least.
+fn are_names(lines: &str) -> bool {
+    lines.ends_with("\n")
+        && lines.lines().all(|line| line.split(' ').all(|name| is_name(name.as_bytes())))
+}
+
 impl Folder {
-    /// The lines, if there are any: a folder of an earlier program has none.
+    /// The lines, if there are any: a folder of an earlier program has none. Of a list that is damaged that is said, and it has none.
     fn lines_together(&self) -> Result<Option<String>, Status> {
-        let Some(bytes) = self.small(TOGETHER)? else {
-            return Ok(None);
+        match self.list(TOGETHER)? {
+            Some(lines) if !are_names(lines.as_str()) => {
+                self.no_list(TOGETHER);
+                Ok(Some(String::new(self.program.alloc())))
+            }
+            lines => Ok(lines),
+        }
+    }
+
+    /// Whether its lists are whole. Of each that is not that is said.
+    pub fn has_lists(&self) -> Result<bool, Status> {
+        let is_together = match self.lines_together()? {
+            Some(lines) => !lines.is_empty(),
+            None => true,
         };
-        let text = std::str::from_utf8(&bytes).unwrap_or("");
-        Ok(Some(String::from_str(self.program.alloc(), text)?))
+        match self.dates() {
+            Ok(_) => Ok(is_together),
+            Err(Status::Damaged) => Ok(false),
+            Err(status) => Err(status),
+        }
     }
 
     /// Whether volumes were last brought to their files by one call, as far as that is known.
@@ -69,6 +91,6 @@ impl Folder {
         if new.as_str() == old.as_str() {
             return Ok(());
         }
-        self.put_small(TOGETHER, new.as_str())
+        self.put_list(TOGETHER, new.as_str())
     }
 }

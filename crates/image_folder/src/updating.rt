@@ -69,7 +69,7 @@ fn note(opened: &Opened, jobs: &[Job<'_>]) -> Result<(), Status> {
 /// The second and the third pass, under a marker.
 fn write_all(opened: &mut Opened, jobs: &mut Vec<Job<'_>>) -> Result<(), Status> {
     let lines = lines_of(opened, jobs)?;
-    opened.overwrite(lines.as_str(), jobs)?;
+    opened.overwrite(Some(lines.as_str()), jobs)?;
     note(opened, jobs)?;
     check_all(jobs)
 }
@@ -96,6 +96,7 @@ pub fn update_by(opened: &mut Opened, jobs: &mut Vec<Job<'_>>) -> Result<(), Sta
         is_changed |= job.written > 0;
     }
     check_all(jobs)?;
+    opened.check_room(jobs)?;
     if is_changed {
         write_all(opened, jobs)?;
     } else {

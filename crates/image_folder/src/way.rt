@@ -5,6 +5,10 @@ pub enum Way {
     Checking,
     /// Beside others who read.
     Showing,
+    /// Beside others who read: what is there is compared, and not shown.
+    Comparing,
+    /// Beside others who read, and beside one who writes: images alone are read.
+    Beside,
     /// Alone.
     Writing,
 }

@@ -41,7 +41,7 @@ HoldsAsNow {P = P} f p jobs passes after done = (first : P) → p.stands jobs fi
 
 -- and if memory has copies of all that is to be overwritten, each has them
 abbrev pub CoversAsNow : {F P E J : Type 0} → Folding F E → Passing P E J → J → P → F → P → Type 0
-CoversAsNow {P = P} f p jobs passes after done = (first : P) → p.stands jobs first passes → p.is_copied jobs passes
+CoversAsNow {P = P} f p jobs passes after done = (first : P) → p.stands jobs first passes → p.is_copied jobs
     → AreAll (p.covers jobs first done) (f.found after State)
 
 -- ## memory and volumes
@@ -49,9 +49,26 @@ CoversAsNow {P = P} f p jobs passes after done = (first : P) → p.stands jobs f
 abbrev pub StillStands : {P E J : Type 0} → Passing P E J → J → P → P → Type 0
 StillStands {P = P} p jobs old new = (first : P) → p.stands jobs first old → p.stands jobs first new
 
+-- and what the jobs that are left ask for is what these ask for
+pub record IsGoneOn {P E J : Type 0} (p : Passing P E J) (jobs : J) (passes : P) (left : J) (done : P) : Type 0 where
+  pub stands : (first : P) → p.stands jobs first passes → p.stands left first done
+  pub asked : (first now : P) → p.is_brought left first now → p.is_brought jobs first now
+
+-- the volumes have what the jobs ask for
+abbrev pub AreBrought : {P E J : Type 0} → Passing P E J → J → P → P → Type 0
+AreBrought {P = P} p jobs passes done = (first : P) → p.stands jobs first passes → p.is_brought jobs first done
+
+-- they have what they had of what any jobs ask for
+abbrev pub StaysBrought : {P E J : Type 0} → Passing P E J → P → P → Type 0
+StaysBrought {P = P} {J = J} p old new = (asked : J) (first : P) → p.is_brought asked first old → p.is_brought asked first new
+
 -- no block of a volume was written
 abbrev pub WritesNone : {P E J : Type 0} → Passing P E J → P → P → Type 0
 WritesNone {P = P} p old new = (first : P) → p.is_before first old → p.is_before first new
+
+-- or the jobs say that one may have been
+abbrev pub SaysTorn : {P E J : Type 0} → Passing P E J → J → P → P → Type 0
+SaysTorn p jobs old new = p.is_torn jobs ⊎ WritesNone p old new
 
 -- ## markers
 
@@ -72,3 +89,7 @@ IsNamed {P = P} f p lines was_torn folder passes after done = (first : P) → p.
 abbrev pub IsNamedOrGone : {F P E J : Type 0} → Folding F E → Passing P E J → List ℕ → Bool → J → F → P → F → P → Type 0
 IsNamedOrGone {P = P} f p lines was_torn left folder passes after done = (first : P) → p.is_before first passes
     → AreEither (IsOf f p lines was_torn folder first done) (IsGone p left done) (f.found after Marker)
+
+-- there is none only if it is known what is committed behind such a failure, or there was none
+abbrev pub IsKnownIfGone : {F E : Type 0} → Folding F E → F → F → E → Type 0
+IsKnownIfGone f folder after fault = f.found after Marker None → f.found folder Marker None ⊎ f.is_known fault

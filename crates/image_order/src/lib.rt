@@ -12,6 +12,7 @@ mod mem_folder;
 mod name;
 mod ordering;
 mod passes;
+mod reverts;
 mod state_folder;
 
 pub use copied::Copied;
@@ -20,6 +21,10 @@ pub use laws::an_update_is_whole;
 pub use mem_file::MemFile;
 pub use mem_folder::MemFolder;
 pub use name::Name;
-pub use ordering::{commit, commit_in_order, end_in_order, mark, overwrite_in_order, unmark};
+pub use ordering::{
+    commit, commit_in_order, end_in_order, mark, overwrite_in_order, overwrite_marked,
+    revert_in_order, unmark,
+};
 pub use passes::Passes;
+pub use reverts::Reverts;
 pub use state_folder::StateFolder;

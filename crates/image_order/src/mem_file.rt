@@ -1,11 +1,11 @@
-ghost use Rattle.std.specs.Prelude.{Some, None, OnOk};
+ghost use Rattle.std.specs.Prelude.{None, OnOk};
 ghost use Rattle.image_order.specs.Found.{AreAmong, AreEither, AreOnly, Is};
 ghost use Rattle.image_order.specs.InMemory.{IsWritten, MayBe, MayBeFound};
 
 use crate::held::Held;
 use std::alloc::Global;
 use std::mem;
-use vss_names::{Failed, Text};
+use vss_names::Failed;
 
 /// A name of a folder in memory, and what lies aside for it.
 #[derive(Drop)]
@@ -24,19 +24,6 @@ impl MemFile {
             aside: Held::Nothing,
             before: Vec::new(alloc),
         }
-    }
-
-    /// Writes a file of these bytes aside. They are not synced.
-    pub fn write(&mut self, alloc: Global, bytes: &[u8]) -> Result<(), Failed>
-        ensures written { OnOk result (AreOnly (Some bytes.now) (IsWritten self.new.aside)) }
-        ensures found { AreAmong (MayBeFound self.old) (MayBeFound self.new) }
-        ensures now { AreAmong (MayBe self.old.now) (MayBe self.new.now) }
-    {
-        let Ok(text) = Text::copy(alloc, bytes) else {
-            return Err(Failed);
-        };
-        self.aside = Held::Written(text);
-        Ok(())
     }
 
     /// Sees that the bytes of what lies aside last.

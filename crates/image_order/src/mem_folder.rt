@@ -1,10 +1,11 @@
 ghost use Rattle.std.specs.Prelude.{◌≡◌, IsErr};
 
+use crate::held::Held;
 use crate::mem_file::MemFile;
 use crate::name::Name;
 use crate::state_folder::StateFolder;
 use std::alloc::Global;
-use vss_names::Failed;
+use vss_names::{Failed, Text};
 
 /// A folder in memory, which loses what was not synced. A call makes steps, and has its effect between two of them. Once all steps are made, each
 /// call fails without an effect: what a loss of power at that step leaves is what may be found from then on.
@@ -43,27 +44,45 @@ impl MemFolder {
 }
 
 impl StateFolder<Failed> for MemFolder {
-    ghost use Rattle.image_order.specs.InMemory.{MayBe, MayBeFound, file_of};
+    ghost use Rattle.std.specs.Prelude.{◌≡◌};
+    ghost use Rattle.image_order.specs.InMemory.{IsWritten, MayBe, MayBeFound, file_of};
 
     ghost found = { λ folder name. MayBeFound (file_of folder name) };
 
     ghost now = { λ folder name. MayBe (file_of folder name).now };
 
+    ghost written = { λ folder name. IsWritten (file_of folder name).aside };
+
     ghost aside = { λ folder name. MayBe (file_of folder name).aside };
 
-    fn make_state(&mut self, head: &[u8], _slots: u32) -> Result<(), Failed> {
+    ghost is_out = { λ folder. folder.left ≡ 0 };
+
+    ghost is_known = { λ fault. Unit {0} };
+
+    fn write_state(&mut self, head: &[u8], _slots: u32) -> Result<(), Failed> {
         self.step()?;
-        self.state.write(self.alloc, head)?;
-        self.step()?;
-        self.state.sync_aside();
+        let Ok(text) = Text::copy(self.alloc, head) else {
+            return Err(Failed);
+        };
+        self.state.aside = Held::Written(text);
         self.step()
     }
 
-    fn make_marker(&mut self, lines: &str) -> Result<(), Failed> {
+    fn write_marker(&mut self, lines: &str) -> Result<(), Failed> {
         self.step()?;
-        self.marker.write(self.alloc, lines.as_bytes())?;
+        let Ok(text) = Text::copy(self.alloc, lines.as_bytes()) else {
+            return Err(Failed);
+        };
+        self.marker.aside = Held::Written(text);
+        self.step()
+    }
+
+    fn sync_aside(&mut self, name: Name) -> Result<(), Failed> {
         self.step()?;
-        self.marker.sync_aside();
+        match name {
+            Name::State => self.state.sync_aside(),
+            Name::Marker => self.marker.sync_aside(),
+        }
         self.step()
     }
 

@@ -1,24 +1,27 @@
 //! The order of the calls that replace what is committed.
 
-ghost use Rattle.std.specs.Prelude.{ℕ, ◌≡◌, ◌⊎◌, true, List, Option, Some, None, IfOk, OnOk};
+ghost use Rattle.std.specs.Prelude.{ℕ, ◌≡◌, ◌⊎◌, true, List, Option, Some, None, IfErr, IfOk, OnOk};
 ghost use Rattle.image_order.specs.Found.{AreAll, AreAmong, AreOnly, AreWithinBut, Is};
 ghost use Rattle.image_order.specs.Order.{IsNamed, IsReplaced, IsCovered, IsGone, KeepsImages};
-ghost use Rattle.image_order.specs.Order.{CoversAsNow, HoldsAsNow, OpensAsNow};
-ghost use Rattle.image_order.specs.Order.{StaysSettled, StillStands, WritesNone};
+ghost use Rattle.image_order.specs.Order.{AreBrought, CoversAsNow, HoldsAsNow, IsGoneOn, OpensAsNow};
+ghost use Rattle.image_order.specs.Order.{IsKnownIfGone, SaysTorn, StaysBrought, StaysSettled};
+ghost use Rattle.image_order.specs.Order.{StillStands, WritesNone};
 ghost use Rattle.image_order.specs.declared.name.Name.{Name as NameOf};
 
 use crate::copied::Copied;
 use crate::name::Name;
 use crate::passes::Passes;
+use crate::reverts::Reverts;
 use crate::state_folder::StateFolder;
 use vss_names::Failed;
 
-/// Gives the file that was made for a name its name, and sees that this lasts.
+/// Gives the file that was written aside for a name its name, once its bytes last, and sees that this lasts.
 fn put<E: Drop, F: StateFolder<E>>(folder: &mut F, name: Name) -> Result<(), E>
-    ensures found { AreWithinBut name (F.aside folder.old name)
+    ensures found { AreWithinBut name (F.written folder.old name)
         (F.found folder.old) (F.found folder.new) }
-    ensures lasts { OnOk result (AreAmong (F.aside folder.old name) (F.found folder.new name)) }
+    ensures lasts { OnOk result (AreAmong (F.written folder.old name) (F.found folder.new name)) }
 {
+    folder.sync_aside(name)?;
     folder.rename(name)?;
     folder.sync_names()
 }
@@ -29,7 +32,7 @@ pub fn mark<E: Drop, F: StateFolder<E>>(folder: &mut F, lines: &str) -> Result<(
         (F.found folder.old) (F.found folder.new) }
     ensures lasts { OnOk result (AreOnly (Some lines.now) (F.found folder.new NameOf.Marker)) }
 {
-    folder.make_marker(lines)?;
+    folder.write_marker(lines)?;
     put(folder, Name::Marker)
 }
 
@@ -58,11 +61,12 @@ pub fn commit<E: Drop, F: StateFolder<E>, J: Drop, P: Passes<E, J>>(
     ensures marker { AreAmong (F.found folder.old NameOf.Marker)
         (F.found folder.new NameOf.Marker) }
     ensures stands { StillStands P.Passes jobs.now passes.old passes.new }
+    ensures brought { StaysBrought P.Passes passes.old passes.new }
     ensures before { WritesNone P.Passes passes.old passes.new }
 {
     passes.sync(jobs)?;
     let head = passes.head(jobs)?;
-    folder.make_state(head.bytes(), passes.slots())?;
+    folder.write_state(head.bytes(), passes.slots())?;
     put(folder, Name::State)
 }
 
@@ -78,6 +82,8 @@ fn copy_once<E: Drop, F: StateFolder<E>, J: Drop, P: Passes<E, J>>(
         jobs.old folder.old passes.old jobs.new folder.new passes.new) }
     ensures covered { IfOk result (λ is_done. is_done ≡ true → IsCovered F.StateFolder P.Passes
         jobs.old folder.old passes.old jobs.new folder.new passes.new) }
+    ensures copied { IfOk result (λ is_done. is_done ≡ true → P.is_copied jobs.new) }
+    ensures on { IsGoneOn P.Passes jobs.old passes.old jobs.new passes.new }
     ensures before { WritesNone P.Passes passes.old passes.new }
     ensures marker { AreAmong (F.found folder.old NameOf.Marker)
         (F.found folder.new NameOf.Marker) }
@@ -103,6 +109,8 @@ fn copy_all<E: From<Failed> + Drop, F: StateFolder<E>, J: Drop, P: Passes<E, J>>
         jobs.old folder.old passes.old folder.new passes.new }
     ensures covered { OnOk result (IsCovered F.StateFolder P.Passes
         jobs.old folder.old passes.old jobs.new folder.new passes.new) }
+    ensures copied { OnOk result (P.is_copied jobs.new) }
+    ensures on { IsGoneOn P.Passes jobs.old passes.old jobs.new passes.new }
     ensures before { WritesNone P.Passes passes.old passes.new }
     ensures marker { AreAmong (F.found folder.old NameOf.Marker)
         (F.found folder.new NameOf.Marker) }
@@ -131,7 +139,10 @@ pub fn overwrite_in_order<E: From<Failed> + Drop, F: StateFolder<E>, J: Drop, P:
         jobs.old folder.old passes.old folder.new passes.new }
     ensures transit { IsNamed F.StateFolder P.Passes
         lines.now was_torn folder.old passes.old folder.new passes.new }
+    ensures brought { OnOk result (AreBrought P.Passes jobs.old passes.old passes.new) }
     ensures marked { OnOk result (AreOnly (Some lines.now) (F.found folder.new NameOf.Marker)) }
+    ensures known { IfErr result (IsKnownIfGone F.StateFolder folder.old folder.new) }
+    ensures torn { SaysTorn P.Passes jobs.new passes.old passes.new }
 {
     mark(folder, lines)?;
     if let Err(fault) = copy_all(folder, passes, jobs) {
@@ -140,6 +151,23 @@ pub fn overwrite_in_order<E: From<Failed> + Drop, F: StateFolder<E>, J: Drop, P:
         }
         return Err(fault);
     }
+    passes.overwrite(jobs)
+}
+
+/// As `overwrite_in_order`, under a marker that is there and stays: a call may bring volumes to other contents several times under one.
+pub fn overwrite_marked<E: From<Failed> + Drop, F: StateFolder<E>, J: Drop, P: Passes<E, J>>(
+    folder: &mut F,
+    passes: &mut P,
+    jobs: &mut J,
+) -> Result<(), E>
+    ensures images { KeepsImages F.StateFolder P.Passes
+        jobs.old folder.old passes.old folder.new passes.new }
+    ensures marker { AreAmong (F.found folder.old NameOf.Marker)
+        (F.found folder.new NameOf.Marker) }
+    ensures brought { OnOk result (AreBrought P.Passes jobs.old passes.old passes.new) }
+    ensures torn { SaysTorn P.Passes jobs.new passes.old passes.new }
+{
+    copy_all(folder, passes, jobs)?;
     passes.overwrite(jobs)
 }
 
@@ -160,6 +188,7 @@ pub fn commit_in_order<E: Drop, F: StateFolder<E>, J: Drop, P: Passes<E, J>>(
     ensures transit { IsNamed F.StateFolder P.Passes
         lines.now was_torn folder.old passes.old folder.new passes.new }
     ensures marked { OnOk result (AreOnly (Some lines.now) (F.found folder.new NameOf.Marker)) }
+    ensures known { IfErr result (IsKnownIfGone F.StateFolder folder.old folder.new) }
     ensures stands { StillStands P.Passes jobs.now passes.old passes.new }
     ensures before { WritesNone P.Passes passes.old passes.new }
 {
@@ -173,6 +202,30 @@ pub fn commit_in_order<E: Drop, F: StateFolder<E>, J: Drop, P: Passes<E, J>>(
     done
 }
 
+/// Brings a volume back to an image under a marker of these lines. In memory the newer images are gone: that is committed, and then the volume is
+/// overwritten. Once it lasts, the slots are committed as free that it does not need any more. The marker stays, unless nothing was overwritten.
+pub fn revert_in_order<E: Drop, F: StateFolder<E>, J: Drop, P: Reverts<E, J>>(
+    folder: &mut F,
+    passes: &mut P,
+    jobs: &J,
+    lines: &str,
+    was_torn: bool,
+) -> Result<(), E>
+    ensures states { P.is_copied jobs.now
+        → IsReplaced F.StateFolder P.Passes jobs.now folder.old passes.old folder.new passes.new }
+    ensures lasts { OnOk result (P.is_copied jobs.now
+        → OpensAsNow F.StateFolder P.Passes jobs.now passes.old folder.new passes.new) }
+    ensures transit { IsNamed F.StateFolder P.Passes
+        lines.now was_torn folder.old passes.old folder.new passes.new }
+    ensures marked { OnOk result (AreOnly (Some lines.now) (F.found folder.new NameOf.Marker)) }
+    ensures brought { OnOk result (AreBrought P.Passes jobs.now passes.old passes.new) }
+{
+    commit_in_order(folder, passes, jobs, lines, was_torn)?;
+    passes.restore(jobs)?;
+    passes.settle(jobs)?;
+    commit(folder, passes, jobs)
+}
+
 /// Ends a call: its volumes last, and then the marker goes.
 pub fn end_in_order<E: Drop, F: StateFolder<E>, J: Drop, P: Passes<E, J>>(
     folder: &mut F,
@@ -184,6 +237,7 @@ pub fn end_in_order<E: Drop, F: StateFolder<E>, J: Drop, P: Passes<E, J>>(
         → AreAll (P.opens first passes.new) (F.found folder.new NameOf.State) }
     ensures transit { (file : Option (List ℕ)) → F.found folder.new NameOf.Marker file
         → F.found folder.old NameOf.Marker file ⊎ IsGone P.Passes jobs.now passes.new file }
+    ensures brought { StaysBrought P.Passes passes.old passes.new }
     ensures gone { OnOk result (AreAmong (IsGone P.Passes
         jobs.now passes.new) (F.found folder.new NameOf.Marker)) }
 {

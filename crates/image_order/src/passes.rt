@@ -25,17 +25,24 @@ pub trait Passes<E, J>: Drop {
     /// It does, and it has a copy of each block that is to be overwritten.
     ghost covers: { J → Self → Self → List ℕ → Type 0 };
 
-    /// Each block that is to be overwritten has its copies in memory.
-    ghost is_copied: { J → Self → Type 0 };
+    /// Each block that is to be overwritten was gone over for its copies.
+    ghost is_copied: { J → Type 0 };
+
+    /// The volumes have what these jobs ask for, of the store `first`.
+    ghost is_brought: { J → Self → Self → Type 0 };
+
+    /// A block of a volume may have been written.
+    ghost is_torn: { J → Type 0 };
 
     /// The volumes have what they are brought to, and that lasts.
     ghost lasts: { J → Self → Type 0 };
 
     /// Copies old bytes into slots that no state has in use.
     fn copy(&mut self, jobs: &mut J) -> Result<Copied, E>
-        ensures done { IfOk result (λ copied. copied ≡ CopiedOf.All → ((first : Self) (h : List ℕ) → holds first self.old h → holds first self.new h) × is_copied jobs.new self.new) }
+        ensures done { IfOk result (λ copied. copied ≡ CopiedOf.All → ((first : Self) (h : List ℕ) → holds first self.old h → holds first self.new h) × is_copied jobs.new) }
         ensures opens { (first : Self) (h : List ℕ) → holds first self.old h → opens first self.new h }
         ensures stands { (first : Self) → stands jobs.old first self.old → stands jobs.new first self.new }
+        ensures asked { (first now : Self) → is_brought jobs.new first now → is_brought jobs.old first now }
         ensures before { (first : Self) → is_before first self.old → is_before first self.new };
 
     /// Says which images went, once that is committed.
@@ -45,8 +52,10 @@ pub trait Passes<E, J>: Drop {
     fn sync(&mut self, jobs: &J) -> Result<(), E>
         ensures opens { (first : Self) (h : List ℕ) → opens first self.old h → opens first self.new h }
         ensures holds { OnOk result ((first : Self) → stands jobs.now first self.old → holds first self.new (head self.new)) }
-        ensures covers { OnOk result ((first : Self) → stands jobs.now first self.old → is_copied jobs.now self.old → covers jobs.now first self.new (head self.new)) }
+        ensures covers { OnOk result ((first : Self) → stands jobs.now first self.old → is_copied jobs.now → covers jobs.now first self.new (head self.new)) }
         ensures stands { (first : Self) → stands jobs.now first self.old → stands jobs.now first self.new }
+        ensures brought { (asked : J) (first : Self) → is_brought asked first self.old
+            → is_brought asked first self.new }
         ensures before { (first : Self) → is_before first self.old → is_before first self.new };
 
     /// The head of its state.
@@ -58,11 +67,14 @@ pub trait Passes<E, J>: Drop {
 
     /// Overwrites the blocks that differ.
     fn overwrite(&mut self, jobs: &mut J) -> Result<(), E>
-        ensures opens { (first : Self) (h : List ℕ) → covers jobs.old first self.old h → opens first self.new h };
+        ensures opens { (first : Self) (h : List ℕ) → covers jobs.old first self.old h → opens first self.new h }
+        ensures brought { OnOk result ((first : Self) → stands jobs.old first self.old → is_copied jobs.old → is_brought jobs.old first self.new) }
+        ensures torn { is_torn jobs.new };
 
     /// Brings all volumes to where they last.
     fn finish(&mut self, jobs: &J) -> Result<(), E>
         ensures opens { (first : Self) (h : List ℕ) → opens first self.old h → opens first self.new h }
+        ensures brought { (asked : J) (first : Self) → is_brought asked first self.old → is_brought asked first self.new }
         ensures lasts { OnOk result (lasts jobs.now self.new) };
 
     ghost held_open: { (first now : Self) (h : List ℕ) → holds first now h → opens first now h };

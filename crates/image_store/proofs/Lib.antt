@@ -2,6 +2,7 @@ pub mod Sets
 pub mod Opens
 pub mod Copies
 pub mod Plains
+pub mod Unwritten
 pub mod Calls
 pub mod Passes
 pub mod Spools
@@ -15,9 +16,11 @@ pub mod PowerLoss
 pub mod UnderWay
 pub mod Lists
 pub mod Heads
+pub mod Changed
 pub mod Names
 pub mod Found
 pub mod Files
 pub mod Origins
 pub mod Failing
 pub mod Orders
+pub mod Marks

@@ -20,10 +20,12 @@ use Rattle.image_store.specs.declared.job.Job.{Job}
 use Rattle.image_store.specs.Capturing.{Gives}
 use Rattle.image_store.specs.Copying.{AreCopied, HasCopiesOf, IsAreaLeft, IsAreaSame, IsStoppedAt}
 use Rattle.image_store.specs.Head.{head_of}
-use Rattle.image_store.specs.Ordering.{Aim, OfEach, AreApart, IsReady, IsCopied, without, HasBut, MayOverwrite, AllImages, IsFurther, HasMore, IsCopyPass}
-use Rattle.image_store.specs.Ordering.{IsHeld, IsWritten, AreWritten, OpensBut, HoldsBut, CoversBut, IsHeadOf, FoundBut}
+use Rattle.image_store.specs.Ordering.{Aim, OfEach, AreApart, IsReady, IsBrought, IsCopied}
+use Rattle.image_store.specs.Ordering.{without, HasBut, MayOverwrite, AllImages, IsFurther, HasMore, IsCopyPass}
+use Rattle.image_store.specs.Ordering.{IsHeld, IsWritten, IsOverwrite, AreAllWritten, AreOverwritten}
+use Rattle.image_store.specs.Ordering.{AreBrought, OpensBut, HoldsBut, CoversBut, IsHeadOf, FoundBut}
 use Rattle.image_store.specs.Plain.{Plain, PlainStore, plain_at, image_of, changed, with_blocks}
-use Rattle.image_store.specs.PowerLoss.{IsCommitted, IsUnderWay, IsShared, KeepsBlocks}
+use Rattle.image_store.specs.PowerLoss.{IsCommitted, IsUnderWay, IsStillUnderWay, IsShared, KeepsBlocks}
 use Rattle.image_store.specs.Steps.{after}
 use Rattle.image_store.specs.Steps.Step.{Gone}
 use Rattle.image_store.specs.StoreValue.{StoreValue, StandsAs, StandsStill}
@@ -34,12 +36,16 @@ use Rattle.image_order.specs.declared.copied.Copied.{Copied}
 use Rattle.image_order.specs.declared.copied.Copied.TheVariants.{All as Whole, UntilEvicted}
 use Rattle.image_store.proofs.Copied.{area_kept, copied_gone, copied_kept, copies_then}
 use Rattle.image_store.proofs.Origins.{back-step}
-use Rattle.image_store.proofs.Plains.{image_there}
+use Rattle.image_store.proofs.Plains.{as_many_plains, image_there, same_lists, volume_on}
 use Rattle.image_store.proofs.PowerLoss.{opens_found}
 use Rattle.image_store.proofs.Sets.{at_or_below}
 use Rattle.image_store.proofs.UnderWay.{gone_blocks, other_volume, same_or_other}
 
 -- ## what stays
+
+pub ok_then : {A E : Type 0} {P Q : Type 0} (r : Result A E) → OnOk r P → (P → Q) → OnOk r Q
+ok_then (Ok done) h f = f h
+ok_then (Err failed) h f = h
 
 pub copies_all : {D : Type 0} (g : GroupValue D) → HasCopiesOf g g
 copies_all g = record { volumes = refl; images = refl; number = refl; records = λ slot r at used. at }
@@ -322,9 +328,23 @@ opens_still told old new h p images under opens = record {
 
 -- ## the third pass
 
+-- what is wanted is what the device tells of the marked blocks, and of the others what is there
+pub same_wanted : (p : PlainStore) (aim : Aim) (a b : IsReady p aim) → a.wanted ≡ b.wanted
+same_wanted p aim a b = same_lists a.wanted b.wanted (a.ready.as_many ∙ sym b.ready.as_many)
+    (λ k x y at there. same_Some x y (sym at ∙ by_mark k (slice_get_inside aim.differs k (within k x at)) ∙ there))
+  where
+    within : (k : ℕ) (x : List ℕ) → slice_get a.wanted k ≡ Some x → k < length aim.differs
+    within k x at = (let l = slice_get_within a.wanted k x at in let as_many = a.ready.as_many in let marks = a.ready.marks in omega arith)
+
+    by_mark : (k : ℕ) → (m : Bool) × (slice_get aim.differs k ≡ Some m) → slice_get a.wanted k ≡ slice_get b.wanted k
+    by_mark k (true, at) = sym (a.gives.marked k at)
+        ∙ ap (λ (list : List (List ℕ)). slice_get list k) (same_Some a.gives.source b.gives.source
+        (sym a.gives.told_is ∙ b.gives.told_is)) ∙ b.gives.marked k at
+    by_mark k (false, at) = sym (a.ready.rest k at) ∙ b.ready.rest k at
+
 -- one volume
-pub job_written : {D E : Type 0} (told : D → Option (List (List ℕ))) (old new : StoreValue D) (t : Option (List (List ℕ))) (aim : Aim) (list : List Evicted)
-    (r : Result Pass E) → AllImages old.group
+pub job_written : {D E F : Type 0} (told : D → Option (List (List ℕ))) (old new : StoreValue D) (t : Option (List (List ℕ))) (aim : Aim) (list : List Evicted)
+    (r : Result Pass E) (done : Result Unit F) → AllImages old.group → aim.volume < length old.group.area.volumes → OnOk done (r ≡ Ok Done)
     → t ≡ aim.told → length aim.differs ≡ blocks_at old.group aim.volume
     → ((wanted : List (List ℕ)) (p : PlainStore) → Gives t aim.differs wanted → StandsAs told old p
     → AreReady aim.differs wanted (plain_at p aim.volume).blocks 0
@@ -334,10 +354,9 @@ pub job_written : {D E : Type 0} (told : D → Option (List (List ℕ))) (old ne
     → AreReady aim.differs wanted (plain_at p aim.volume).blocks 0
     → HasCopiesOf c old.group → AreCopied c aim.volume aim.differs 0 (blocks_at old.group aim.volume) → IsUnderWay told c old.group
     → IsUnderWay told c new.group)
-    → (committed : GroupValue D) (p : PlainStore) → IsReady p aim → IsCopied committed aim → IsHeld told committed old p
-    → IsWritten told committed new p aim.volume
-job_written {D = D} {E = E} told old new t aim list r are tells marks written area under committed p ready copied held =
-    by_result r (written ready.wanted p gives held.stands ready.ready) (area here)
+    → IsOverwrite told aim old new done
+job_written {D = D} {E = E} told old new t aim list r done are inside whole tells marks written area under committed p ready copied held =
+    by_result r (written ready.wanted p gives held.stands ready.ready) (area here) whole
   where
     gives : Gives t aim.differs ready.wanted
     gives = subst (λ x. Gives x aim.differs ready.wanted) (sym tells) ready.gives
@@ -352,9 +371,12 @@ job_written {D = D} {E = E} told old new t aim list r are tells marks written ar
     on : IsUnderWay told committed new.group
     on = under committed ready.wanted p gives held.stands ready.ready held.copies there held.under_way
 
+    here_is : aim.volume < length p.volumes
+    here_is = (let many = as_many_plains told old.group p.volumes held.stands.group in omega arith)
+
     made : (blocks : List (List ℕ)) → IsAreaSame told old.group new.group → StandsAs told new (changed (aim.volume ∷ []) (with_blocks blocks) p)
-        → IsWritten told committed new p aim.volume
-    made blocks same stands = record {
+        → OnOk done (blocks ≡ ready.wanted) → IsWritten told committed new p aim done
+    made blocks same stands all = record {
       later = changed (aim.volume ∷ []) (with_blocks blocks) p;
       held = record {
         stands = stands;
@@ -363,46 +385,118 @@ job_written {D = D} {E = E} told old new t aim list r are tells marks written ar
         under_way = on;
       };
       others = λ u other. ap (λ (q : Plain). q.blocks) (other_volume p.volumes aim.volume u (with_blocks blocks) other);
+      brought = ok_then done all (λ is again. ap (λ (q : Plain). q.blocks) (volume_on p.volumes aim.volume (with_blocks blocks) here_is)
+          ∙ is ∙ same_wanted p aim ready again);
     }
 
     by_result : (r : Result Pass E) → IsOverwriting told new p aim.volume aim.differs ready.wanted list r → IsAreaLeft told old.group new.group r
-        → IsWritten told committed new p aim.volume
-    by_result (Ok Done) is left = made ready.wanted left is.1
-    by_result (Ok (Stopped at up_to)) is left = absurd left
-    by_result (Err failed) is left = made is.0 left is.2
+        → OnOk done (r ≡ Ok Done) → IsWritten told committed new p aim done
+    by_result (Ok Done) is left all = made ready.wanted left is.1 (ok_then done all (λ e. refl))
+    by_result (Ok (Stopped at up_to)) is left all = absurd left
+    by_result (Err failed) is left all = made is.0 left is.2 (ok_then done all (λ e. absurd (cc)))
 
--- one more volume is written
-pub written_next : {D : Type 0} (told : D → Option (List (List ℕ))) (aims : List Aim) (committed : GroupValue D) (now next : StoreValue D) (k : ℕ) (aim : Aim)
-    → AreApart aims → OfEach (IsCopied committed) aims
-    → slice_get aims k ≡ Some aim
-    → ((c : GroupValue D) (p : PlainStore) → IsReady p aim → IsCopied c aim → IsHeld told c now p → IsWritten told c next p aim.volume)
-    → AreWritten told aims committed now k → AreWritten told aims committed next (k + 1)
-written_next told aims committed now next k aim apart copied at call written =
-    let one = call committed written.later (written.ready k aim (omega arith) at) (copied k aim at) written.held in
-    record {
-      later = one.later;
-      held = one.held;
-      ready = λ m other past there. ready_on written.later one.later other (one.others other.volume (λ e. apart k m aim other (omega arith) at there (sym e)))
-          (written.ready m other (omega arith) there);
-    }
+-- the first volumes have what was wanted of them, and no other was written
+pub record AreWritten {D : Type 0} (told : D → Option (List (List ℕ))) (aims : List Aim) (committed : GroupValue D) (now : StoreValue D) (p : PlainStore)
+    (from : ℕ) : Type 0 where
+  pub later : PlainStore
+  pub held : IsHeld told committed now later
+  pub brought : (k : ℕ) (aim : Aim) → k < from → slice_get aims k ≡ Some aim → IsBrought p later aim
+  pub others : (u : ℕ) → ((k : ℕ) (aim : Aim) → k < from → slice_get aims k ≡ Some aim → u ≢ aim.volume) → (plain_at later u).blocks ≡ (plain_at p u).blocks
 
-pub overwrite_opens : {D : Type 0} (told : D → Option (List (List ℕ))) (aims : List Aim) (old new : StoreValue D) (h : List ℕ) (p : PlainStore)
-    → ((c : GroupValue D) (q : PlainStore) → AreApart aims → OfEach (IsReady q) aims → OfEach (IsCopied c) aims → IsHeld told c old q
-    → (from : ℕ) × AreWritten told aims c new from)
+pub written_none : {D : Type 0} (told : D → Option (List (List ℕ))) (aims : List Aim) (committed : GroupValue D) (now : StoreValue D) (p : PlainStore)
+    → IsHeld told committed now p → AreWritten told aims committed now p 0
+written_none told aims committed now p held = record { later = p; held = held; brought = λ k aim low. absurd (omega arith); others = λ u none. refl }
+
+-- the next one was not
+kept_for : {D : Type 0} (told : D → Option (List (List ℕ))) (aims : List Aim) (committed : GroupValue D) (now : StoreValue D) (p : PlainStore) (k : ℕ)
+    (aim : Aim)
+    → AreApart aims → slice_get aims k ≡ Some aim → (written : AreWritten told aims committed now p k)
+    → (plain_at written.later aim.volume).blocks ≡ (plain_at p aim.volume).blocks
+kept_for told aims committed now p k aim apart at written = written.others aim.volume (λ m other low there e. apart m k other aim low there at (sym e))
+
+-- it is gone on with
+pub written_at : {D E : Type 0} (told : D → Option (List (List ℕ))) (aims : List Aim) (committed : GroupValue D) (now next : StoreValue D) (p : PlainStore)
+    (k : ℕ) (aim : Aim) (done : Result Unit E) → AreApart aims → OfEach (IsReady p) aims → OfEach (IsCopied committed) aims → slice_get aims k ≡ Some aim
+    → IsOverwrite told aim now next done
+    → (written : AreWritten told aims committed now p k) → IsWritten told committed next written.later aim done
+written_at told aims committed now next p k aim done apart ready copied at call written = call committed written.later
+    (ready_on p written.later aim (kept_for told aims committed now p k aim apart at written) (ready k aim at)) (copied k aim at) written.held
+
+-- and it has what was wanted of it
+pub written_next : {D E : Type 0} (told : D → Option (List (List ℕ))) (aims : List Aim) (committed : GroupValue D) (now next : StoreValue D)
+    (p : PlainStore) (k : ℕ) (aim : Aim) (done : Unit {0}) → AreApart aims → slice_get aims k ≡ Some aim → (written : AreWritten told aims committed now p k)
+    → (one : IsWritten {E = E} told committed next written.later aim (Ok done)) → AreWritten told aims committed next p (k + 1)
+unfolding ready_on
+written_next told aims committed now next p k aim done apart at written one = record {
+  later = one.later;
+  held = one.held;
+  brought = λ m other low there. elim (at_or_below m k low) [
+    | inl here ↦ subst (IsBrought p one.later) (same_Some aim other (sym at ∙ ap (slice_get aims) (sym here) ∙ there))
+        (λ ready. one.brought (ready_on p written.later aim (kept_for told aims committed now p k aim apart at written) ready))
+    | inr below ↦ λ ready. one.others other.volume (apart m k other aim below there at) ∙ written.brought m other below there ready
+  ];
+  others = λ u none. one.others u (none k aim (omega arith) at) ∙ written.others u (λ m other low there. none m other (omega arith) there);
+}
+
+pub written_all : {D : Type 0} (E : Type 0) (told : D → Option (List (List ℕ))) (aims : List Aim) (committed : GroupValue D) (now : StoreValue D)
+    (p : PlainStore) (from : ℕ)
+    → length aims ≤ from → AreWritten told aims committed now p from → AreAllWritten {E = E} told aims committed now p (Ok tt)
+written_all E told aims committed now p from end written = (
+  record {
+    later = written.later;
+    stands = written.held.stands;
+    each = λ k aim at. written.brought k aim (let l = slice_get_within aims k aim at in omega arith) at;
+    others = λ u none. written.others u (λ k aim low at. none k aim at);
+  },
+  written.held,
+)
+
+-- what is held, whether or not a device failed
+held_now : {D E : Type 0} (told : D → Option (List (List ℕ))) (aims : List Aim) (committed : GroupValue D) (now : StoreValue D) (p : PlainStore)
+    (r : Result Unit E)
+    → AreAllWritten told aims committed now p r → (later : PlainStore) × IsHeld told committed now later
+held_now told aims committed now p (Ok done) all = (all.0.later, all.1)
+held_now told aims committed now p (Err failed) all = all
+
+pub overwrite_opens : {D E : Type 0} (told : D → Option (List (List ℕ))) (aims : List Aim) (old new : StoreValue D) (h : List ℕ) (p : PlainStore)
+    (r : Result Unit E) → AreOverwritten told aims old new r
     → CoversBut told aims old h p → OpensBut told new h p
-overwrite_opens told aims old new h p call covers =
+overwrite_opens told aims old new h p r call covers =
     let opens = covers.holds.opens in
-    let one = (call opens.store.group (without covers.here.gone p) covers.apart covers.here.ready covers.copied
-    (record { stands = covers.here.stands; copies = covers.holds.copies; under_way = opens.under_way })).1 in
+    let one = held_now told aims opens.store.group new (without covers.here.gone p) r
+    (call opens.store.group (without covers.here.gone p) covers.apart covers.here.ready covers.copied
+    (record { stands = covers.here.stands; copies = covers.holds.copies; under_way = opens.under_way })) in
     record {
       gone = opens.gone;
       store = opens.store;
       head = opens.head;
       committed = opens.committed;
-      under_way = one.held.under_way;
+      under_way = one.1.under_way;
       left = λ set v is. opens.left set v
-          (subst (λ (i : List (List ℕ)). is_among set (sets_in (slice_get i v)) ≡ true) (one.held.copies.images ∙ sym covers.holds.copies.images) is);
+          (subst (λ (i : List (List ℕ)). is_among set (sets_in (slice_get i v)) ≡ true) (one.1.copies.images ∙ sym covers.holds.copies.images) is);
     }
+
+-- the volumes have what was wanted of them
+pub overwrite_brings : {D E I : Type 0} (told : D → Option (List (List ℕ))) (told_in : I → Option (List (List ℕ))) (jobs : List (Job I))
+    (old new : StoreValue D) (r : Result Unit E) → AreOverwritten told (aims_of told_in jobs) old new r
+    → OnOk r ((p : PlainStore) → AreCopiedSoFar old.group jobs → AreApart (aims_of told_in jobs) × AreAtTheirEnd jobs
+    → MayOverwrite told (aims_of told_in jobs) old p → AreBrought told (aims_of told_in jobs) new p)
+unfolding ready_on
+overwrite_brings told told_in jobs old new (Ok done) call = λ p so_far copied may.
+    let one = (call old.group (without may.gone p) copied.0 may.ready (all_copied told_in old.group old.group jobs refl refl so_far copied.1)
+    (record { stands = may.stands; copies = copies_all old.group; under_way = begun told old.group })).0 in
+    record {
+      later = one.later;
+      stands = one.stands;
+      each = λ k aim at ready. one.each k aim at (ready_on p (without may.gone p) aim (without_blocks may.gone p aim.volume) ready);
+      others = λ u none. one.others u none ∙ without_blocks may.gone p u;
+    }
+overwrite_brings told told_in jobs old new (Err failed) call = tt
+
+-- where what the store stands for is as it was
+pub brought_still : {D : Type 0} (told : D → Option (List (List ℕ))) (aims : List Aim) (old new : StoreValue D) (p : PlainStore) → StandsStill told old new
+    → AreBrought told aims old p → AreBrought told aims new p
+brought_still told aims old new p still was = record { later = was.later; stands = still was.later was.stands; each = was.each; others = was.others }
 
 -- ## as a call begins
 
@@ -444,7 +538,8 @@ found_but told now p h opens = record {
 pub record AreFlushed {D : Type 0} (ghosts : Ghosts D) (k : ℕ) (old now : StoreValue D) : Type 0 where
   pub volumes : now.group.area.volumes ≡ old.group.area.volumes
   pub images : now.group.images ≡ old.group.images
-  pub under_way : (committed : GroupValue D) → IsUnderWay ghosts.told committed old.group → IsUnderWay ghosts.told committed now.group
+  pub under_way : IsStillUnderWay ghosts.told old.group now.group
+  pub still : StandsStill ghosts.told old now
   pub last : (v : ℕ) (d : D) → v < k → slice_get now.group.devices v ≡ Some d → ghosts.lasting d ≡ ghosts.told d
 
 -- ## the jobs, one after another
@@ -529,10 +624,6 @@ none_stands told told_in s (job ∷ jobs) none = absurd (cc)
 pub none_gone : {D : Type 0} (told : D → Option (List (List ℕ))) (aims : List Aim) (s : StoreValue D) (p : PlainStore) → aims ≡ [] → MayOverwrite told aims s p
     → StandsAs told s p
 none_gone told aims s p none may = subst (λ (gone : List ℕ). StandsAs told s (without gone p)) (may.none none) may.stands
-
-pub ok_then : {A E : Type 0} {P Q : Type 0} (r : Result A E) → OnOk r P → (P → Q) → OnOk r Q
-ok_then (Ok done) h f = f h
-ok_then (Err failed) h f = h
 
 -- the list behind a vector, once each job was gone on with
 pub over_all : {I : Type 0} (told : I → Option (List (List ℕ))) (len : ℕ) (new old : List (Job I)) → len ≡ length old → aims_of told new ≡ aims_of told old

@@ -17,6 +17,7 @@ pub mod PowerLoss
 pub mod Passes
 pub mod Cutting
 pub mod Showing
+pub mod Written
 pub mod Reverting
 pub mod Lists
 pub mod Messages

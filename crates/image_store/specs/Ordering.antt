@@ -1,6 +1,6 @@
 -- What the order of an update says of a store: what it has in memory, and to what the head of a state that may be found opens, whatever has
 -- lasted of the blocks that were written (PowerLoss.antt). (This project's own.)
-use Rattle.std.specs.Prelude.{ℕ, ◌≡◌, ◌≢◌, ◌<◌, ◌≤◌, ◌⊎◌, Bool, true, List, [], ◌∷◌, length, map, Option, None, Some, slice_get, Result, Ok, Err}
+use Rattle.std.specs.Prelude.{ℕ, ◌≡◌, ◌≢◌, ◌<◌, ◌⊎◌, Bool, true, List, [], ◌∷◌, length, Option, None, Some, slice_get, Result, Ok, Err, OnOk}
 use Rattle.cow_volume.specs.Calls.{is_among, sets_at}
 use Rattle.cow_volume.specs.GroupValue.{GroupValue}
 use Rattle.diff_map.specs.MapValue.{AreImages}
@@ -37,6 +37,10 @@ pub record IsReady (p : PlainStore) (aim : Aim) : Type 0 where
   pub wanted : List (List ℕ)
   pub gives : Gives aim.told aim.differs wanted
   pub ready : AreReady aim.differs wanted (plain_at p aim.volume).blocks 0
+
+-- the volume has what was wanted of it, if it was ready for that
+abbrev pub IsBrought : PlainStore → PlainStore → Aim → Type 0
+IsBrought p later aim = (ready : IsReady p aim) → (plain_at later aim.volume).blocks ≡ ready.wanted
 
 -- all marked blocks have copies for the newest image
 abbrev pub IsCopied : {D : Type 0} → GroupValue D → Aim → Type 0
@@ -103,17 +107,36 @@ pub record IsHeld {D : Type 0} (told : D → Option (List (List ℕ))) (committe
   pub copies : HasCopiesOf committed now.group
   pub under_way : IsUnderWay told committed now.group
 
--- volume v was written, and no other
-pub record IsWritten {D : Type 0} (told : D → Option (List (List ℕ))) (committed : GroupValue D) (now : StoreValue D) (p : PlainStore) (v : ℕ) : Type 0 where
+-- one volume was written, and no other; all of it, where no device failed
+pub record IsWritten {D E : Type 0} (told : D → Option (List (List ℕ))) (committed : GroupValue D) (now : StoreValue D) (p : PlainStore) (aim : Aim)
+    (r : Result Unit E) : Type 0 where
   pub later : PlainStore
   pub held : IsHeld told committed now later
-  pub others : (u : ℕ) → u ≢ v → (plain_at later u).blocks ≡ (plain_at p u).blocks
+  pub others : (u : ℕ) → u ≢ aim.volume → (plain_at later u).blocks ≡ (plain_at p u).blocks
+  pub brought : OnOk r (IsBrought p later aim)
 
--- the first volumes were written, and the others are ready
-pub record AreWritten {D : Type 0} (told : D → Option (List (List ℕ))) (aims : List Aim) (committed : GroupValue D) (now : StoreValue D) (from : ℕ) : Type 0 where
+-- this is so of a volume that was held, ready and copied
+abbrev pub IsOverwrite : {D E : Type 0} → (D → Option (List (List ℕ))) → Aim → StoreValue D → StoreValue D → Result Unit E → Type 0
+IsOverwrite {D = D} told aim old new r = (committed : GroupValue D) (p : PlainStore) → IsReady p aim → IsCopied committed aim → IsHeld told committed old p
+    → IsWritten told committed new p aim r
+
+-- of the copies that a store had, the volumes have what was wanted of them, and all others are as they were
+pub record AreBrought {D : Type 0} (told : D → Option (List (List ℕ))) (aims : List Aim) (now : StoreValue D) (p : PlainStore) : Type 0 where
   pub later : PlainStore
-  pub held : IsHeld told committed now later
-  pub ready : (k : ℕ) (aim : Aim) → from ≤ k → slice_get aims k ≡ Some aim → IsReady later aim
+  pub stands : StandsAs told now later
+  pub each : OfEach (IsBrought p later) aims
+  pub others : (u : ℕ) → OfEach (λ aim. u ≢ aim.volume) aims → (plain_at later u).blocks ≡ (plain_at p u).blocks
+
+-- all volumes were written, or some, until a device failed
+abbrev pub AreAllWritten : {D E : Type 0} → (D → Option (List (List ℕ))) → List Aim → GroupValue D → StoreValue D → PlainStore → Result Unit E → Type 0
+AreAllWritten told aims committed now p (Ok done) = (brought : AreBrought told aims now p) × IsHeld told committed now brought.later
+AreAllWritten told aims committed now p (Err failed) = (later : PlainStore) × IsHeld told committed now later
+
+-- this is so of volumes that were held, ready and copied
+abbrev pub AreOverwritten : {D E : Type 0} → (D → Option (List (List ℕ))) → List Aim → StoreValue D → StoreValue D → Result Unit E → Type 0
+AreOverwritten {D = D} told aims old new r = (committed : GroupValue D) (p : PlainStore) → AreApart aims → OfEach (IsReady p) aims
+    → OfEach (IsCopied committed) aims
+    → IsHeld told committed old p → AreAllWritten told aims committed new p r
 
 -- ## on the disk
 

@@ -1,7 +1,10 @@
-ghost use Rattle.std.specs.Prelude.{◌≡◌, ◌<◌, ◌≤◌, ◌+◌, ◌++◌, drop, length, IfErr, IfOk, IfSome, IsNone, OnOk};
+ghost use Rattle.std.specs.Prelude.{◌≡◌, ◌<◌, ◌≤◌, ◌+◌, ◌++◌, ◌∷◌, [], Some, true, drop, length, slice_get, slice_set, IfErr, IfOk, IfSome, IsNone, OnErr, OnOk};
+ghost use Rattle.std.specs.List.{remove};
 ghost use Rattle.byteorder.specs.Endian.{little_number};
 ghost use Rattle.vss_catalog.specs.Written.{number_bytes};
 ghost use Rattle.vss_catalog.specs.Allowed.{IsCatalog};
+ghost use Rattle.vss_catalog.specs.Entries.{EntryValue};
+ghost use Rattle.vss_names.specs.Names.{is_name};
 ghost use Rattle.image_store.specs.Head.{bytes_of_head, head_bytes};
 ghost use Rattle.image_store.specs.Opening.{IsHeadFault};
 
@@ -116,5 +119,48 @@ impl Head {
         ensures allowed { IsCatalog self.now.entries }
     {
         &self.catalog
+    }
+
+    /// Gives a volume so many blocks.
+    pub fn resize(&mut self, volume: u32, blocks: u32)
+        requires volume { volume < length self.old.entries }
+        requires some { 0 < blocks }
+        requires few { blocks ≤ 65536 }
+        ensures entries { (e : EntryValue) → slice_get self.old.entries volume ≡ Some e
+            → self.new.entries ≡ slice_set self.old.entries volume (record e { blocks = blocks }) }
+        ensures last { self.new.last ≡ self.old.last }
+    {
+        self.catalog.resize(volume, blocks);
+    }
+
+    /// Adds a volume without images behind the others.
+    pub fn add(&mut self, alloc: Global, name: &[u8], blocks: u32) -> Result<(), OutOfMemory>
+        requires volumes { length self.old.entries < 128 }
+        requires named { is_name name.now ≡ true }
+        requires short { length name.now ≤ 32 }
+        requires some { 0 < blocks }
+        requires few { blocks ≤ 65536 }
+        ensures entries { OnOk result (self.new.entries ≡ self.old.entries ++ record { name = name.now; blocks = blocks; images = [] } ∷ []) }
+        ensures last { self.new.last ≡ self.old.last }
+        ensures same { OnErr result (self.new ≡ self.old) }
+    {
+        self.catalog.add(alloc, name, blocks)
+    }
+
+    /// Takes a volume away, which is not the only one.
+    pub fn remove(&mut self, volume: u32)
+        requires volume { volume < length self.old.entries }
+        requires others { 1 < length self.old.entries }
+        ensures entries { self.new.entries ≡ remove self.old.entries volume }
+        ensures last { self.new.last ≡ self.old.last }
+    {
+        self.catalog.remove(volume);
+    }
+
+    /// Its bytes.
+    pub fn bytes(&self, alloc: Global) -> Result<Text, OutOfMemory>
+        ensures { IfOk result (λ text. text.bytes ≡ bytes_of_head self.now) }
+    {
+        bytes_with(alloc, self.last, &self.catalog)
     }
 }

@@ -1,11 +1,11 @@
-ghost use Rattle.std.specs.Prelude.{◌≡◌, ◌<◌, ◌≤◌, ◌*◌, ℕ, length, vec_capacity, IfOk, OnOk};
+ghost use Rattle.std.specs.Prelude.{◌≡◌, ◌<◌, ◌≤◌, ◌+◌, ◌*◌, ℕ, false, None, Ok, length};
+ghost use Rattle.std.specs.Prelude.{replicate, vec_capacity, IfOk, OnOk};
 ghost use Rattle.cow_volume.specs.Calls.{blocks_at};
-ghost use Rattle.cow_volume.specs.GroupValue.{GroupValue};
 ghost use Rattle.image_order.specs.declared.copied.Copied.{Copied as CopiedOf};
-ghost use Rattle.image_store.specs.Aims.{aim_of};
+ghost use Rattle.image_store.specs.Aims.{aim_of, marked_in};
 ghost use Rattle.image_store.specs.Copying.{AreCopied};
-ghost use Rattle.image_store.specs.Ordering.{AllImages, IsCopied, IsCopyPass, IsHeld, IsReady, IsWritten};
-ghost use Rattle.image_store.specs.Plain.{PlainStore};
+ghost use Rattle.image_store.specs.Ordering.{AllImages, IsCopyPass, IsOverwrite};
+ghost use Rattle.image_store.specs.declared.pass.Pass.TheVariants.{Done};
 
 use crate::pass::Pass;
 use crate::pass_fault::PassFault;
@@ -43,20 +43,36 @@ pub fn make_empty<D: Device>(store: &Store<D>, gone: &mut Vec<Evicted>) -> Resul
 }
 
 /// How many blocks are marked from one on to before another.
-fn marked(differs: &[bool], from: u32, to: u32) -> u32 {
+#[tactic(auto, using(crate::proofs::Marks::marked_few, crate::proofs::Marks::marked_more))]
+fn marked(differs: &[bool], from: u32, to: u32) -> u32
+    ensures { from ≤ to → marked_in to differs.now ≡ marked_in from differs.now + result }
+{
     let mut count = 0u32;
     for block in from..to {
-        if differs.get(block as usize).copied().unwrap_or(false) {
-            count = count.saturating_add(1);
-        }
+        let mark = differs.get(block as usize).copied().unwrap_or(false);
+        count = count.saturating_add(u32::from(mark));
     }
     count
+}
+
+/// Why a volume was not overwritten. All that is overwritten has copies, so no image has to go for one.
+fn fault_of(done: Result<Pass, PassFault>) -> Option<PassFault>
+    ensures { result ≡ None → done ≡ Ok Done }
+{
+    match done {
+        Ok(Pass::Done) => None,
+        Ok(Pass::Evicted { .. }) => Some(PassFault::Volume),
+        Err(fault) => Some(fault),
+    }
 }
 
 impl<I: Device> Job<I> {
     /// That of a volume of as many blocks as the device has. None of them is marked.
     pub fn new(alloc: Global, volume: u32, input: I) -> Result<Job<I>, AllocError>
+        ensures volume { IfOk result (λ job. job.volume ≡ volume) }
         ensures input { IfOk result (λ job. job.input ≡ input) }
+        ensures marks { IfOk result (λ job. job.differs.items ≡ replicate (I.size input) false) }
+        ensures counts { IfOk result (λ job. (job.written ≡ 0) × (job.copied ≡ 0)) }
         ensures begun { IfOk result (λ job. job.at ≡ 0) }
     {
         let blocks = input.blocks() as usize;
@@ -71,8 +87,11 @@ impl<I: Device> Job<I> {
     }
 
     /// Counts the blocks that are marked.
+    #[tactic(auto, using(crate::proofs::Marks::marked_none))]
     pub fn count(&mut self)
-        ensures input { self.new.input ≡ self.old.input }
+        ensures { self.new ≡ record self.old {
+          written = marked_in (I.size self.old.input) self.old.differs.items;
+        } }
     {
         self.written = marked(&self.differs, 0, self.input.blocks());
     }
@@ -80,8 +99,10 @@ impl<I: Device> Job<I> {
     /// That the device and the marks are of as many blocks as the volume.
     pub fn fits<D: Device>(&self, store: &Store<D>) -> Result<(), Failed>
         ensures volume { OnOk result (self.now.volume < length store.now.group.area.volumes) }
-        ensures sizes { OnOk result (I.size self.now.input ≡ blocks_at store.now.group self.now.volume) }
-        ensures marks { OnOk result (length self.now.differs.items ≡ blocks_at store.now.group self.now.volume) }
+        ensures sizes { OnOk result (
+            I.size self.now.input ≡ blocks_at store.now.group self.now.volume) }
+        ensures marks { OnOk result (
+            length self.now.differs.items ≡ blocks_at store.now.group self.now.volume) }
         ensures images { OnOk result (AllImages store.now.group) }
     {
         if self.volume >= store.volumes() {
@@ -171,17 +192,12 @@ impl<I: Device> Job<I> {
         report: &R,
     ) -> Result<(), E>
         ensures aim { aim_of I.told self.new ≡ aim_of I.told self.old }
-        ensures written { (committed : GroupValue D) (p : PlainStore) → IsReady p (aim_of I.told self.old) → IsCopied committed (aim_of I.told self.old)
-            → IsHeld D.told committed store.old p → IsWritten D.told committed store.new p self.old.volume }
+        ensures written { IsOverwrite D.told (aim_of I.told self.old) store.old store.new result }
     {
         report.begin(&mut self.input, "written", self.written);
         make_empty(store, gone)?;
         self.fits(store)?;
-        let fault = match store.overwrite(self.volume, &mut self.input, &self.differs, 0, gone) {
-            Ok(Pass::Done) => None,
-            Ok(Pass::Evicted { .. }) => Some(PassFault::Volume),
-            Err(fault) => Some(fault),
-        };
-        report.end(&mut self.input, fault)
+        let done = store.overwrite(self.volume, &mut self.input, &self.differs, 0, gone);
+        report.end(&mut self.input, fault_of(done))
     }
 }

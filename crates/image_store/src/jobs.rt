@@ -1,10 +1,9 @@
 ghost use Rattle.std.specs.Prelude.{◌≡◌, ◌≢◌, ◌<◌, ◌≤◌, ℕ, [], Some, false, length, slice_get, IfOk, IsTrue, OnOk};
-ghost use Rattle.cow_volume.specs.GroupValue.{GroupValue};
 ghost use Rattle.image_order.specs.declared.copied.Copied.{Copied as CopiedOf};
 ghost use Rattle.image_store.specs.Aims.{AreAtTheirEnd, AreCopiedSoFar, aims_of};
-ghost use Rattle.image_store.specs.Ordering.{AllLast, AreApart, AreWritten, IsCopied, IsCopyPass, IsHeld, IsReady, OfEach};
-ghost use Rattle.image_store.specs.Plain.{PlainStore};
-ghost use Rattle.image_store.specs.PowerLoss.{IsUnderWay};
+ghost use Rattle.image_store.specs.Ordering.{AllLast, AreApart, AreOverwritten, IsCopyPass};
+ghost use Rattle.image_store.specs.PowerLoss.{IsStillUnderWay};
+ghost use Rattle.image_store.specs.StoreValue.{StandsStill};
 
 use crate::job::Job;
 use crate::report::Report;
@@ -31,6 +30,7 @@ impl<I: Device, R: Drop> Jobs<I, R> {
     /// These jobs, of which none has begun.
     pub fn new(alloc: Global, jobs: Vec<Job<I>>, report: R) -> Jobs<I, R>
         ensures jobs { result.jobs ≡ jobs }
+        ensures torn { result.is_torn ≡ false }
     {
         Jobs {
             jobs,
@@ -81,7 +81,8 @@ pub fn copy_jobs<
 ) -> Result<Copied, E>
     ensures aims { aims_of I.told jobs.new.items ≡ aims_of I.told jobs.old.items }
     ensures pass { IsCopyPass D.told store.old store.new result }
-    ensures copied { AreCopiedSoFar store.old.group jobs.old.items → AreCopiedSoFar store.new.group jobs.new.items }
+    ensures copied { AreCopiedSoFar store.old.group jobs.old.items
+        → AreCopiedSoFar store.new.group jobs.new.items }
     ensures whole { IfOk result (λ copied. copied ≡ CopiedOf.All → AreAtTheirEnd jobs.new.items) }
     ensures some { IfOk result (λ copied. copied ≡ CopiedOf.UntilEvicted → jobs.old.items ≢ []) }
 {
@@ -107,9 +108,7 @@ pub fn overwrite_jobs<
     gone: &mut Vec<Evicted>,
     report: &R,
 ) -> Result<(), E>
-    ensures written { (committed : GroupValue D) (p : PlainStore) → AreApart (aims_of I.told jobs.old.items)
-        → OfEach (IsReady p) (aims_of I.told jobs.old.items) → OfEach (IsCopied committed) (aims_of I.told jobs.old.items)
-        → IsHeld D.told committed store.old p → (from : ℕ) × AreWritten D.told (aims_of I.told jobs.old.items) committed store.new from }
+    ensures written { AreOverwritten D.told (aims_of I.told jobs.old.items) store.old store.new result }
 {
     'each: for job in jobs.iter_mut() {
         match job.overwrite(store, gone, report) {
@@ -123,7 +122,8 @@ pub fn overwrite_jobs<
 /// Brings the area and then each volume to where they last.
 pub fn flush_all<D: Device>(store: &mut Store<D>) -> Result<(), Failed>
     ensures last { OnOk result (AllLast D.told D.lasting store.new.group) }
-    ensures under_way { (committed : GroupValue D) → IsUnderWay D.told committed store.old.group → IsUnderWay D.told committed store.new.group }
+    ensures under_way { IsStillUnderWay D.told store.old.group store.new.group }
+    ensures still { StandsStill D.told store.old store.new }
     ensures images { store.new.group.images ≡ store.old.group.images }
 {
     let Ok(()) = store.sync() else {

@@ -35,12 +35,13 @@ mod showing;
 mod store;
 mod updating;
 mod which;
+mod written;
 
 pub use capture_fault::CaptureFault;
 pub use closed::Closed;
 pub use cut_fault::CutFault;
 pub use head::Head;
-pub use job::{Job, make_empty};
+pub use job::Job;
 pub use jobs::Jobs;
 pub use laws::{
     a_show_is_a_step, calls_follow_one_another, files_come_back, images_are_of_their_cut,

@@ -1,10 +1,11 @@
 //! The passes of an update of volumes, and the calls that commit, in the order of `image_order`.
 
-ghost use Rattle.std.specs.Prelude.{◌≡◌, ◌⊎◌, false, ℕ, List, [], Option, Some, None, OnOk};
+ghost use Rattle.std.specs.Prelude.{◌≡◌, ◌⊎◌, false, ℕ, List, [], Option, Some, None, IfErr, IsTrue, OnOk};
 ghost use Rattle.image_order.specs.Found.{AreAll};
+ghost use Rattle.image_order.specs.Order.{IsKnownIfGone};
 ghost use Rattle.image_order.specs.declared.name.Name.{Name as NameOf};
-ghost use Rattle.image_store.specs.Aims.{AreCopiedSoFar, aims_of};
-ghost use Rattle.image_store.specs.Ordering.{AllLast, FoundBut, HasBut, IsHeadOf, IsReady, OfAll, OfEach};
+ghost use Rattle.image_store.specs.Aims.{AreBegun, aims_of};
+ghost use Rattle.image_store.specs.Ordering.{AllLast, AreBrought, FoundBut, HasBut, IsHeadOf, OfAll};
 ghost use Rattle.image_store.specs.Plain.{PlainStore};
 ghost use Rattle.image_store.specs.PowerLoss.{IsUnderWay};
 ghost use Rattle.image_store.specs.StoreValue.{StoreValue, StandsAs, StandsStill};
@@ -23,9 +24,10 @@ impl<
     R: Report<D, I, E>,
     E: From<Failed> + From<OutOfMemory> + From<AllocError> + Drop,
 > Passes<E, Jobs<I, R>> for Store<D> {
+    ghost use Rattle.std.specs.Prelude.{IsTrue};
     ghost use Rattle.image_store.specs.Aims.{AreAtTheirEnd, AreCopiedSoFar, aims_of};
     ghost use Rattle.image_store.specs.Head.{head_of};
-    ghost use Rattle.image_store.specs.Ordering.{AllLast, AreApart, CoversBut, HasBut, HoldsBut};
+    ghost use Rattle.image_store.specs.Ordering.{AllLast, AreApart, AreBrought, CoversBut, HasBut, HoldsBut};
     ghost use Rattle.image_store.specs.Ordering.{MayOverwrite, OfAll, OpensBut};
 
     ghost head = { λ store. head_of store };
@@ -41,8 +43,13 @@ impl<
 
     ghost covers = { λ jobs first now h. OfAll D.told first (CoversBut D.told (aims_of I.told jobs.jobs.items) now h) };
 
-    ghost is_copied = { λ jobs now. AreApart (aims_of I.told jobs.jobs.items)
+    ghost is_copied = { λ jobs. AreApart (aims_of I.told jobs.jobs.items)
         × AreAtTheirEnd jobs.jobs.items };
+
+    ghost is_torn = { λ jobs. IsTrue jobs.is_torn };
+
+    ghost is_brought = { λ jobs first now. OfAll D.told first
+        (AreBrought D.told (aims_of I.told jobs.jobs.items) now) };
 
     ghost lasts = { λ jobs now. AllLast D.told D.lasting now.group };
 
@@ -101,6 +108,8 @@ impl<
 /// Whether or not a call fails, and so at every moment (`image_order`): if the folder has the store's committed head as this begins, each head
 /// that may be found opens to the images from before the call, whatever has lasted of the blocks that were written. An image that is not found
 /// is gone from memory, too. A marker of other lines may be found only while no block of a volume was written.
+///
+/// If the call is accepted, the volume of each job has what its device told of the blocks that differ, and else what it had.
 pub fn update_in_order<
     F: StateFolder<E>,
     D: Device,
@@ -114,12 +123,18 @@ pub fn update_in_order<
     lines: &str,
     was_torn: bool,
 ) -> Result<(), E>
-    ensures found { AreAll (IsHeadOf D.told store.old) (F.found folder.old NameOf.State) → AreCopiedSoFar store.old.group jobs.old.jobs.items
-        → OfAll D.told store.old (λ p. OfEach (IsReady p) (aims_of I.told jobs.old.jobs.items))
-        → OfAll D.told store.old (λ p. AreAll (FoundBut D.told store.new p) (F.found folder.new NameOf.State)) }
+    ensures found { AreAll (IsHeadOf D.told store.old) (F.found folder.old NameOf.State)
+        → AreBegun D.told I.told store.old jobs.old.jobs.items
+        → OfAll D.told store.old (λ p. AreAll (FoundBut D.told store.new p)
+        (F.found folder.new NameOf.State)) }
+    ensures brought { OnOk result (AreBegun D.told I.told store.old jobs.old.jobs.items
+        → OfAll D.told store.old
+        (AreBrought D.told (aims_of I.told jobs.old.jobs.items) store.new)) }
     ensures transit { (file : Option (List ℕ)) → F.found folder.new NameOf.Marker file → (file ≡ Some lines.now)
         ⊎ (OfAll D.told store.old (HasBut D.told store.new) × (F.found folder.old NameOf.Marker file ⊎ ((file ≡ None) × (was_torn ≡ false)))) }
     ensures marked { OnOk result ((file : Option (List ℕ)) → F.found folder.new NameOf.Marker file → file ≡ Some lines.now) }
+    ensures known { IfErr result (IsKnownIfGone F.StateFolder folder.old folder.new) }
+    ensures torn { IsTrue jobs.new.is_torn ⊎ OfAll D.told store.old (HasBut D.told store.new) }
 {
     overwrite_in_order(folder, store, jobs, lines, was_torn)
 }
@@ -148,6 +163,7 @@ pub fn keep_in_order<
         → (p q : PlainStore) → StandsAs D.told before p → StandsAs D.told store.old q
         → AreAll (λ h. FoundBut D.told store.new p h ⊎ FoundBut D.told store.new q h) (F.found folder.new NameOf.State) }
     ensures lasts { OnOk result (OfAll D.told store.old (λ q. AreAll (FoundBut D.told store.new q) (F.found folder.new NameOf.State))) }
+    ensures known { IfErr result (IsKnownIfGone F.StateFolder folder.old folder.new) }
     ensures stands { StandsStill D.told store.old store.new }
 {
     commit_in_order(folder, store, none, lines, was_torn)
@@ -163,6 +179,8 @@ pub fn settle_in_order<
 >(folder: &mut F, store: &mut Store<D>, jobs: &Jobs<I, R>) -> Result<(), E>
     ensures transit { (file : Option (List ℕ)) → F.found folder.new NameOf.Marker file → F.found folder.old NameOf.Marker file
         ⊎ ((file ≡ None) × AllLast D.told D.lasting store.new.group) }
+    ensures gone { OnOk result ((file : Option (List ℕ)) → F.found folder.new NameOf.Marker file
+        → (file ≡ None) × AllLast D.told D.lasting store.new.group) }
 {
     end_in_order(folder, store, jobs)
 }

@@ -75,7 +75,10 @@ impl Piece {
         ensures quiet { IsQuiet D.Device group.old group.new }
     {
         match &mut self.payload {
-            Payload::Bytes(block) => group.read_into(v, b, block.bytes_mut()),
+            Payload::Bytes(block) => match group.read_into(v, None, b, block.bytes_mut()) {
+                Ok(()) => Ok(()),
+                Err(fault) => Err(fault.cause()),
+            },
             _ => unreachable!(),
         }
     }
@@ -92,12 +95,12 @@ impl Piece {
         ensures shown { OnOk result (IsShown D.told group.old v set b self.new) }
         ensures image { OnOk result (is_among set (sets_at group.old v) ≡ true) }
         ensures same { OnOk result (IsUnfailed D.count group.old group.new) }
-        ensures cause { IfErr result (HasImageCause D.count v set b group.old group.new) }
+        ensures cause { IfErr result (HasImageCause D.count v (Some set) b group.old group.new) }
         ensures unseen { IsErrOf result ImageFault.NoSuchImage → is_among set (sets_at group.old v) ≡ false }
         ensures quiet { IsQuiet D.Device group.old group.new }
     {
         match &mut self.payload {
-            Payload::Bytes(block) => group.read_image_into(v, set, b, block.bytes_mut()),
+            Payload::Bytes(block) => group.read_into(v, Some(set), b, block.bytes_mut()),
             _ => unreachable!(),
         }
     }

@@ -1,4 +1,4 @@
-ghost use Rattle.std.specs.Prelude.{◌≡◌};
+ghost use Rattle.std.specs.Prelude.{◌≡◌, None, OnOk};
 
 use crate::pass_fault::PassFault;
 use crate::store::Store;
@@ -19,9 +19,10 @@ pub trait Report<D: Device, I: Device, E>: Drop {
     fn stop(&self, input: &mut I)
         ensures { I.told input.new ≡ I.told input.old };
 
-    /// A volume was overwritten, or it was not for a fault.
+    /// A volume was overwritten, or it was not for a fault. Then the call fails.
     fn end(&self, input: &mut I, fault: Option<PassFault>) -> Result<(), E>
-        ensures { I.told input.new ≡ I.told input.old };
+        ensures told { I.told input.new ≡ I.told input.old }
+        ensures whole { OnOk result (fault ≡ None) };
 
     /// That enough images are left in memory. Else what went is not committed, so it is still there.
     fn check_left(&self, store: &Store<D>) -> Result<(), E>;

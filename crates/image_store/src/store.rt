@@ -26,6 +26,8 @@ ghost use Rattle.image_store.specs.PowerLoss.{IsCommitted, IsStillUnderWay, IsUn
 ghost use Rattle.cow_volume.specs.GroupValue.{GroupValue, placed};
 ghost use Rattle.volume_device.specs.Blocks.{AreBlocks};
 ghost use Rattle.image_store.specs.Showing.{HasLength, HasShowCause, IfBad, IsSeen, IsShow, shown_in};
+ghost use Rattle.image_store.specs.Written.{AreSameBut, AreWritten};
+ghost use Rattle.image_store.specs.declared.which.Which.TheVariants.{Of};
 ghost use Rattle.image_store.specs.Reverting.{HasLists, IsRevert};
 ghost use Rattle.image_store.specs.Lists.{AreListsOf, other_sets};
 ghost use Rattle.image_store.specs.Cutting.{IsCutRefused, IsNextSet};
@@ -56,6 +58,7 @@ use crate::show_fault::ShowFault;
 use crate::showing::{length_of, show_blocks};
 use crate::updating::{compare_blocks, copy_blocks, overwrite_blocks};
 use crate::which::Which;
+use crate::written::mark_copied;
 use cow_volume::{Cause, CowGroup, ImageFault, RevertFault};
 use diff_area::{Area, Unopened};
 use io_edge::Sink;
@@ -236,6 +239,18 @@ impl<D: Device> Store<D> {
         ensures { result ≡ length self.now.group.area.records }
     {
         self.group.slots()
+    }
+
+    /// Marks the blocks of a volume that were written between the cuts of two sets, in either order, or since the cut of the one. No block
+    /// is read: a block that was written back is marked too.
+    pub fn mark_written(&self, v: u32, set: u32, other: Which, marks: &mut [bool])
+        requires volume { v < length self.now.group.area.volumes }
+        requires marks { length marks.old ≡ blocks_at self.now.group v }
+        ensures same { (p : PlainStore) → StandsAs D.told self.now p → AreSameBut marks.new (shown_in p.volumes v (Of set)) (shown_in p.volumes v other) }
+        ensures written { AreWritten self.now.group.area.records v set other marks.new }
+        ensures len { length marks.new ≡ length marks.old }
+    {
+        mark_copied(self.group.area(), v, set, other, marks);
     }
 
     /// The last set that was given, 0 where none was.

@@ -2,8 +2,8 @@
 
 ghost use Rattle.std.specs.Prelude.{◌≡◌, ◌<◌, length};
 
-use crate::dated::sizes_of;
-use crate::list::length_of;
+use crate::dated::{Sizes, sizes_of};
+use crate::list::{is_changing, length_of, said_if_lost};
 use image_folder::{Opened, Status, dated_in, name_in, sets_of, which_at};
 use image_store::Which;
 use serde_json::{Value, json};
@@ -50,15 +50,39 @@ fn set_value(
     set: u32,
     seconds: Option<u64>,
     note: &str,
-    sizes: (u32, u32),
+    sizes: Sizes,
 ) -> Result<Value, AllocError> {
     json!(in alloc; {
         "set": set,
         "seconds": number_or_null(seconds),
         "note": note,
-        "images": sizes.0,
-        "used": sizes.1,
+        "images": sizes.images,
+        "used": sizes.used,
+        "exclusive": sizes.exclusive,
+        "shared": sizes.used.saturating_sub(sizes.exclusive),
     })
+}
+
+/// The length of the file of a volume, or of its image; none too if it changes, or cannot be read, which is kept.
+fn length_or_none(
+    opened: &mut Opened,
+    volume: u32,
+    which: Which,
+    done: &mut Result<(), Status>,
+) -> Result<Option<u64>, Status>
+    requires { volume < length opened.old.store.group.area.volumes }
+    ensures { opened.new.store.group.area.volumes ≡ opened.old.store.group.area.volumes }
+{
+    if is_changing(opened, which) {
+        return Ok(None);
+    }
+    match length_of(opened, volume, which) {
+        Err(Status::DeviceFault) => {
+            *done = Err(Status::DeviceFault);
+            Ok(None)
+        }
+        length => length,
+    }
 }
 
 /// Adds an image of a volume.
@@ -67,11 +91,12 @@ fn add_image(
     volume: u32,
     which: Which,
     images: &mut Vec<Value>,
+    done: &mut Result<(), Status>,
 ) -> Result<(), Status>
     requires { volume < length opened.old.store.group.area.volumes }
     ensures { opened.new.store.group.area.volumes ≡ opened.old.store.group.area.volumes }
 {
-    let length = length_of(opened, volume, which)?;
+    let length = length_or_none(opened, volume, which, done)?;
     if let Which::Of(set) = which {
         let used = opened.store.used_by(volume, set).unwrap_or(0);
         let alloc = opened.folder.program.alloc();
@@ -81,36 +106,46 @@ fn add_image(
 }
 
 /// Adds the images of a volume.
-fn add_images(opened: &mut Opened, volume: u32, images: &mut Vec<Value>) -> Result<(), Status>
+fn add_images(
+    opened: &mut Opened,
+    volume: u32,
+    images: &mut Vec<Value>,
+    done: &mut Result<(), Status>,
+) -> Result<(), Status>
     requires { volume < length opened.old.store.group.area.volumes }
     ensures { opened.new.store.group.area.volumes ≡ opened.old.store.group.area.volumes }
 {
     for place in 1..=opened.store.images(volume).len() {
         let which = which_at(&opened.store, volume, place);
-        add_image(opened, volume, which, images)?;
+        add_image(opened, volume, which, images, done)?;
     }
     Ok(())
 }
 
 /// Adds a volume.
-fn add_volume(opened: &mut Opened, volume: u32, volumes: &mut Vec<Value>) -> Result<(), Status>
+fn add_volume(
+    opened: &mut Opened,
+    volume: u32,
+    volumes: &mut Vec<Value>,
+    done: &mut Result<(), Status>,
+) -> Result<(), Status>
     requires { volume < length opened.old.store.group.area.volumes }
     ensures { opened.new.store.group.area.volumes ≡ opened.old.store.group.area.volumes }
 {
     let alloc = opened.folder.program.alloc();
     let mut images = Vec::new(alloc);
-    let length = length_of(opened, volume, Which::Now)?;
-    add_images(opened, volume, &mut images)?;
+    let length = length_or_none(opened, volume, Which::Now, done)?;
+    add_images(opened, volume, &mut images, done)?;
     let (name, blocks) = (name_in(&opened.store, volume), opened.store.blocks(volume));
     volumes.push(volume_value(alloc, name, blocks, length, images)?)?;
     Ok(())
 }
 
 /// The volumes.
-fn volumes_of(opened: &mut Opened) -> Result<Vec<Value>, Status> {
+fn volumes_of(opened: &mut Opened, done: &mut Result<(), Status>) -> Result<Vec<Value>, Status> {
     let mut volumes = Vec::new(opened.folder.program.alloc());
     for volume in 0..opened.store.volumes() {
-        add_volume(opened, volume, &mut volumes)?;
+        add_volume(opened, volume, &mut volumes, done)?;
     }
     Ok(volumes)
 }
@@ -125,24 +160,25 @@ fn dated_sets(opened: &Opened) -> Result<Vec<Value>, Status> {
             Some(dated) => (Some(dated.seconds), dated.note),
             None => (None, ""),
         };
-        let sizes = sizes_of(&opened.store, *set);
+        let sizes = sizes_of(&opened.store, alloc, *set)?;
         sets.push(set_value(alloc, *set, seconds, note, sizes)?)?;
     }
     Ok(sets)
 }
 
 /// Adds the line of a value.
-fn add_value(text: &mut String, alloc: Global, value: &Value) -> Result<(), Status> {
+pub fn add_value(text: &mut String, alloc: Global, value: &Value) -> Result<(), Status> {
     let bytes = value.to_vec(alloc)?;
     text.push_str(str::from_utf8(&bytes).unwrap_or(""))?;
     Ok(text.push('\n')?)
 }
 
-/// `list --json F`: the volumes with their images, the sets, and the slots.
+/// `list --json F`: the volumes with their images, the sets, and the slots. If a volume cannot be read the rest is printed.
 pub fn list_as_json(opened: &mut Opened) -> Result<(), Status> {
     opened.check_transit(&[])?;
     let alloc = opened.folder.program.alloc();
-    let volumes = volumes_of(opened)?;
+    let mut done = Ok(());
+    let volumes = volumes_of(opened, &mut done)?;
     let sets = dated_sets(opened)?;
     let (used, slots, last) = (
         opened.store.used_all(),
@@ -156,5 +192,6 @@ pub fn list_as_json(opened: &mut Opened) -> Result<(), Status> {
         "slots": slots,
         "last": last,
     })?;
-    add_value(&mut opened.text, alloc, &value)
+    add_value(&mut opened.text, alloc, &value)?;
+    said_if_lost(opened, done)
 }

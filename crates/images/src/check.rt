@@ -1,4 +1,4 @@
-//! `check F`: everything was read as the folder was opened; a line is printed for each length that is wrong.
+//! `check F`: all blocks were read as the folder was opened; a line is printed for each list that is damaged and each length that is wrong.
 
 ghost use Rattle.std.specs.Prelude.{◌≡◌, ◌<◌, length};
 
@@ -67,7 +67,7 @@ fn say_whole(opened: &Opened) -> Result<(), Status> {
 
 /// Checks all lengths.
 pub fn check(opened: &mut Opened) -> Result<(), Status> {
-    let mut is_whole = true;
+    let mut is_whole = opened.folder.has_lists()?;
     for volume in 0..opened.store.volumes() {
         is_whole &= check_volume(opened, volume)?;
     }

@@ -19,7 +19,7 @@ fn help_of(word: &str) -> Option<(&'static str, &'static str)> {
             "--note nightly store db log",
         ),
         "update" => (
-            "brings each volume to its file; with --keep at least N sets stay; FILE - is a file that is not there",
+            "brings each volume to its file; with --keep at least N sets stay; with --dry-run it only says what it would write and which sets would go; FILE - is a file that is not there",
             "--keep 7 store db=app.db log=-",
         ),
         "list" => (
@@ -27,8 +27,12 @@ fn help_of(word: &str) -> Option<(&'static str, &'static str)> {
             "--json store",
         ),
         "sets" => (
-            "prints when each set was cut, its note, and the slots that it uses",
+            "prints when each set was cut, its note, and the slots that it uses: if it is deleted, the exclusive ones are free and older images keep the shared ones",
             "store",
+        ),
+        "diff" => (
+            "prints which blocks were written between two sets, or since one; all others are the same",
+            "store 1 2 db",
         ),
         "show" => (
             "writes the file that the volume has, or had at a set",
@@ -48,6 +52,15 @@ fn help_of(word: &str) -> Option<(&'static str, &'static str)> {
             "brings the volume back to its image of a set; newer images of it go",
             "store 1 db",
         ),
+        "grow" => (
+            "makes room for SLOTS old blocks in all, or gives a volume BLOCKS blocks of 16,384 bytes in all; images stay",
+            "store db=8192",
+        ),
+        "add" => (
+            "adds a volume for the file, of as many blocks as it needs or of so many",
+            "store notes:64=notes.txt",
+        ),
+        "remove" => ("takes a volume away, with all its images", "store notes"),
         "check" => ("reads everything, and prints what is wrong", "store"),
         _ => return None,
     })

@@ -1,8 +1,13 @@
 ghost use Rattle.std.specs.Prelude.{◌≡◌, ◌<◌, length};
 
 use crate::show::refusal;
-use image_folder::{ABSENT, Opened, Status, name_in, which_at};
+use image_folder::{ABSENT, Opened, Status, name_in, say, which_at};
 use image_store::{ShowFault, Which};
+
+/// Whether what there is of a volume changes at any time: its present contents, beside another process.
+pub fn is_changing(opened: &Opened, which: Which) -> bool {
+    matches!(which, Which::Now) && opened.folder.is_beside()
+}
 
 /// The length of the file of a volume, or of its image; none of a file that was not there.
 pub fn length_of(opened: &mut Opened, volume: u32, which: Which) -> Result<Option<u64>, Status>
@@ -16,12 +21,19 @@ pub fn length_of(opened: &mut Opened, volume: u32, which: Which) -> Result<Optio
     }
 }
 
-/// Adds the words of a length.
-fn add_length(text: &mut String, length: Option<u64>) -> Result<(), Status> {
-    Ok(match length {
-        Some(length) => write!(text, " length {length}")?,
-        None => text.push_str(" absent")?,
-    })
+/// The words of what there is of a volume: its length, or why it has none.
+fn said_of(opened: &mut Opened, volume: u32, which: Which) -> Result<String, Status>
+    requires { volume < length opened.old.store.group.area.volumes }
+    ensures { opened.new.store.group.area.volumes ≡ opened.old.store.group.area.volumes }
+{
+    let alloc = opened.folder.program.alloc();
+    if is_changing(opened, which) {
+        return Ok(String::from_str(alloc, "changing")?);
+    }
+    match length_of(opened, volume, which)? {
+        Some(length) => Ok(format!(in alloc; "length {length}")?),
+        None => Ok(String::from_str(alloc, "absent")?),
+    }
 }
 
 /// Adds the line of a volume, or of its image.
@@ -29,21 +41,19 @@ fn add_line(opened: &mut Opened, volume: u32, which: Which) -> Result<(), Status
     requires { volume < length opened.old.store.group.area.volumes }
     ensures { opened.new.store.group.area.volumes ≡ opened.old.store.group.area.volumes }
 {
-    let length = length_of(opened, volume, which)?;
+    let said = said_of(opened, volume, which)?;
     let (store, text) = (&opened.store, &mut opened.text);
     match which {
         Which::Now => {
             let (name, blocks) = (name_in(store, volume), store.blocks(volume));
-            write!(text, "volume {name} blocks {blocks}")?;
-            add_length(text, length)?;
+            write!(text, "volume {name} blocks {blocks} {said}\n")?;
         }
         Which::Of(set) => {
-            write!(text, "image {set}")?;
-            add_length(text, length)?;
-            write!(text, " used {}", store.used_by(volume, set).unwrap_or(0))?;
+            let used = store.used_by(volume, set).unwrap_or(0);
+            write!(text, "image {set} {said} used {used}\n")?;
         }
     }
-    Ok(text.push('\n')?)
+    Ok(())
 }
 
 /// Adds the lines of a volume and of its images.
@@ -58,13 +68,27 @@ fn add_volume(opened: &mut Opened, volume: u32) -> Result<(), Status>
     Ok(())
 }
 
-/// `list F`: the volumes, their images, and the slots in use.
+/// `list F`: the volumes, their images, and the slots in use. If a volume cannot be read the others are printed.
 pub fn list(opened: &mut Opened) -> Result<(), Status> {
     opened.check_transit(&[])?;
+    let mut done = Ok(());
     for volume in 0..opened.store.volumes() {
-        add_volume(opened, volume)?;
+        match add_volume(opened, volume) {
+            Ok(()) => {}
+            Err(Status::DeviceFault) => done = Err(Status::DeviceFault),
+            Err(status) => return Err(status),
+        }
     }
     let store = &opened.store;
     let (used, slots, last) = (store.used_all(), store.slots(), store.last());
-    Ok(write!(opened.text, "slots {used} of {slots}, last set {last}\n")?)
+    write!(opened.text, "slots {used} of {slots}, last set {last}\n")?;
+    said_if_lost(opened, done)
+}
+
+/// Prints what there is if a volume could not be read: then the end of the call says no more than that.
+pub fn said_if_lost(opened: &Opened, done: Result<(), Status>) -> Result<(), Status> {
+    if done.is_err() {
+        say(&opened.folder.program, opened.text.as_str())?;
+    }
+    done
 }

@@ -3,7 +3,9 @@
 //!     images create [--tries N] F SLOTS NAME[:BLOCKS]=FILE ..   makes the folder F: a volume for each file, and a diff area of so many slots
 //!     images cut F NAME ..                          cuts one set over these volumes, and prints its number
 //!     images update [--tries N] [--keep N] F NAME=FILE ..   brings each volume to the file's contents; prints what was evicted, written and copied
+//!     images update --dry-run F NAME=FILE ..        prints what that would write and copy, and which sets would go; changes nothing
 //!     images list F                                 prints the volumes, their images, and the slots in use
+//!     images diff [--json] F SET [SET] [NAME]       prints which blocks were written between two sets, or since one
 //!     images show F [SET] NAME                      writes the file that the image, or the volume, has
 //!     images restore [--over] F [SET] NAME FILE     makes FILE of it, whole or not at all
 //!     images restore [--over] F SET FOLDER          makes each file of the set in FOLDER, by the name of its volume
@@ -11,6 +13,10 @@
 //!     images delete F SET [NAME]                    deletes the images of a set, or that of one volume
 //!     images prune --keep N F                       deletes the images of all sets but the N newest
 //!     images revert F SET NAME                      brings a volume back to its image of a set
+//!     images grow F SLOTS                           makes room for so many old blocks in all
+//!     images grow F NAME=BLOCKS                     gives a volume so many blocks
+//!     images add [--tries N] F NAME[:BLOCKS]=FILE   adds a volume for the file
+//!     images remove F NAME                          takes a volume away, with its images
 //!     images check F                                reads everything, and prints what is wrong
 //!     images WORD --help                            prints the form of a word, and an example
 //!
@@ -20,6 +26,8 @@
 mod as_json;
 mod check;
 mod dated;
+mod diff;
+mod forecast;
 mod help;
 mod list;
 mod mistake;
@@ -32,7 +40,8 @@ mod shown_sink;
 mod task;
 
 use image_folder::{
-    Opened, Program, ProgramName, Status, create, ended, open, pairs_of, set_of, update,
+    Opened, Program, ProgramName, Status, add, create, ended, grow_slots, grow_volume, open,
+    pairs_of, remove, set_of, update,
 };
 use mistake::Mistake;
 use request::{Request, form_of, takes_set};
@@ -58,9 +67,19 @@ fn call_on(opened: &mut Opened, task: Task<'_>) -> Result<(), Status> {
             let pairs = pairs_of(opened.folder.program.alloc(), pairs)?;
             update(opened, &pairs, tries)
         }
+        Task::Forecast { keep, pairs } => {
+            opened.least = keep;
+            let pairs = pairs_of(opened.folder.program.alloc(), pairs)?;
+            forecast::forecast(opened, &pairs)
+        }
         Task::List { is_json: false } => list::list(opened),
         Task::List { is_json: true } => as_json::list_as_json(opened),
         Task::Sets => dated::list_sets(opened),
+        Task::Diff {
+            span,
+            name,
+            is_json,
+        } => diff::diff(opened, span, name, is_json),
         Task::Show(of) => show::show(opened, of),
         Task::Digest(of) => show::digest(opened, of),
         Task::Restore { of, target } => restoring::restore(opened, of, target),
@@ -69,7 +88,8 @@ fn call_on(opened: &mut Opened, task: Task<'_>) -> Result<(), Status> {
         Task::Delete { set, name } => sets::delete(opened, set, name),
         Task::Revert { set, name } => sets::revert(opened, set, name),
         Task::Check => check::check(opened),
-        Task::Create { .. } => Ok(()),
+        Task::Create { .. } | Task::Add { .. } => Ok(()),
+        Task::GrowSlots(_) | Task::GrowVolume { .. } | Task::Remove(_) => Ok(()),
     }
 }
 
@@ -84,10 +104,20 @@ fn run(program: &Program, request: Request<'_>) -> Result<(), Status> {
         let pairs = pairs_of(program.alloc(), pairs)?;
         return create(program, request.folder, slots, &pairs, tries);
     }
-    let (folder, way) = (request.folder, request.task.way());
-    let mut opened = open(program, folder, way, request.wait)?;
-    let done = call_on(&mut opened, request.task);
-    opened.end(done)
+    let (folder, wait) = (request.folder, request.wait);
+    if let Task::Add { tries, pair } = request.task {
+        return add(program, folder, wait, pair, tries);
+    }
+    let mut opened = open(program, folder, request.task.way(), wait)?;
+    match request.task {
+        Task::GrowSlots(slots) => grow_slots(opened, slots),
+        Task::GrowVolume { name, blocks } => grow_volume(opened, name, blocks),
+        Task::Remove(name) => remove(opened, name),
+        task => {
+            let done = call_on(&mut opened, task);
+            opened.end(done)
+        }
+    }
 }
 
 /// Says which form the words should have, and what is wrong with them, or that the last two of them should change places.

@@ -26,7 +26,7 @@ impl fmt::Display for Mistake<'_> {
             Mistake::NoNumber(what, least, word) => {
                 write!(
                     f,
-                    "{what} is `{word}`, and has to be a number from {least} on"
+                    "{what} is `{word}`, and has to be a number from {least} on, at most 4294967295"
                 )?;
                 word
             }

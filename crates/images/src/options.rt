@@ -16,17 +16,20 @@ pub struct Options<'a> {
     pub is_over: bool,
     /// Whether the answer is JSON.
     pub is_json: bool,
+    /// Whether it is only said what would be done.
+    pub is_dry: bool,
 }
 
 /// Whether this is an option of this task.
 fn is_of(option: &str, task: &str) -> bool {
     match option {
         "--wait" => task != "create",
-        "--tries" => matches!(task, "create" | "update"),
+        "--tries" => matches!(task, "create" | "update" | "add"),
         "--keep" => matches!(task, "update" | "prune"),
         "--note" => task == "cut",
         "--over" => task == "restore",
-        "--json" => task == "list",
+        "--dry-run" => task == "update",
+        "--json" => matches!(task, "list" | "diff"),
         _ => false,
     }
 }
@@ -40,6 +43,7 @@ impl<'a> Options<'a> {
             "--keep" => self.keep.is_some(),
             "--note" => self.note.is_some(),
             "--over" => self.is_over,
+            "--dry-run" => self.is_dry,
             _ => self.is_json,
         }
     }
@@ -78,6 +82,7 @@ impl<'a> Options<'a> {
         match (option, rest) {
             ("--over", _) => self.is_over = true,
             ("--json", _) => self.is_json = true,
+            ("--dry-run", _) => self.is_dry = true,
             (_, [value, rest @ ..]) => {
                 self.set(option, value.as_str())?;
                 return Ok(rest);
@@ -96,6 +101,7 @@ impl<'a> Options<'a> {
             note: None,
             is_over: false,
             is_json: false,
+            is_dry: false,
         };
         let mut rest = words;
         for _word in words {

@@ -12,7 +12,7 @@ pub struct Request<'a> {
 }
 
 const ALL: &str =
-    "create [--tries N] F SLOTS NAME[:BLOCKS]=FILE .. | cut [--note TEXT] F NAME .. | update [--tries N] [--keep N] F NAME=FILE .. | list [--json] F | sets F | show F [SET] NAME | restore [--over] F [SET] NAME FILE, restore [--over] F SET FOLDER | digest F [SET] NAME | delete F SET [NAME] | prune --keep N F | revert F SET NAME | check F; --wait SECONDS may stand before F";
+    "create [--tries N] F SLOTS NAME[:BLOCKS]=FILE .. | cut [--note TEXT] F NAME .. | update [--dry-run] [--tries N] [--keep N] F NAME=FILE .. | list [--json] F | sets F | diff [--json] F SET [SET] [NAME] | show F [SET] NAME | restore [--over] F [SET] NAME FILE, restore [--over] F SET FOLDER | digest F [SET] NAME | delete F SET [NAME] | prune --keep N F | revert F SET NAME | grow F SLOTS, grow F NAME=BLOCKS | add [--tries N] F NAME[:BLOCKS]=FILE | remove F NAME | check F; --wait SECONDS may stand before F";
 
 /// The form that words should have, by the first of them.
 pub fn form_of(words: &[String]) -> &'static str {
@@ -23,15 +23,19 @@ pub fn form_of(words: &[String]) -> &'static str {
         "create" =>
             "create [--tries N] F SLOTS NAME[:BLOCKS]=FILE ..; SLOTS says for how many old blocks of 16,384 bytes there is room: as many as change while a version is kept",
         "cut" => "cut [--note TEXT] F NAME ..",
-        "update" => "update [--tries N] [--keep N] F NAME=FILE ..",
+        "update" => "update [--dry-run] [--tries N] [--keep N] F NAME=FILE ..",
         "list" => "list [--json] F",
         "sets" => "sets F",
+        "diff" => "diff [--json] F SET [SET] [NAME]",
         "show" => "show F [SET] NAME",
         "restore" => "restore [--over] F [SET] NAME FILE, restore [--over] F SET FOLDER",
         "digest" => "digest F [SET] NAME",
         "delete" => "delete F SET [NAME]",
         "prune" => "prune --keep N F",
         "revert" => "revert F SET NAME",
+        "grow" => "grow F SLOTS, grow F NAME=BLOCKS",
+        "add" => "add [--tries N] F NAME[:BLOCKS]=FILE",
+        "remove" => "remove F NAME",
         "check" => "check F",
         _ => ALL,
     }

@@ -1,8 +1,11 @@
 //! `restore`: a file takes its place whole, or what is there stays.
 
+use crate::list::length_of;
+use crate::sets::no_image;
 use crate::show::show_into;
 use crate::task::Shown;
-use image_folder::{Opened, Program, Status, ended, name_in};
+use image_folder::{Folder, Opened, Program, Status, ended, name_in, parent_of};
+use image_store::Which;
 use std::alloc::AllocError;
 use std::fs::{File, Metadata};
 use std::io::ErrorKind;
@@ -19,15 +22,28 @@ pub struct Target<'a> {
     pub is_over: bool,
 }
 
+/// That a file does not lie in the folder of images itself. Where there is no folder for it none is made.
+fn check_apart(folder: &Folder, path: &str) -> Result<(), Status> {
+    match folder.has_in_it(path) {
+        Ok(false) => Ok(()),
+        Ok(true) => Err(ended!(folder.program, Refused; "{path}: lies in {}", folder.path)),
+        Err(error) if error.kind() == ErrorKind::NotFound => Ok(()),
+        Err(error) => Err(ended!(folder.program, Unread; "{path}: could not be read: {error}")),
+    }
+}
+
 /// The file that is there, if it may be replaced; none if none is there.
-fn replaced(program: &Program, target: Target<'_>) -> Result<Option<Metadata>, Status> {
-    let path = target.path;
+fn replaced(folder: &Folder, target: Target<'_>) -> Result<Option<Metadata>, Status> {
+    let (program, path) = (folder.program, target.path);
+    check_apart(folder, path)?;
     match fs::symlink_metadata(&program.rt, path) {
         Err(error) if error.kind() == ErrorKind::NotFound => Ok(None),
-        Err(error) => Err(ended!(*program, Unread; "{path}: could not be read: {error}")),
-        Ok(found) if !found.is_file() => Err(ended!(*program, Refused; "{path}: is no file")),
+        Err(error) => Err(ended!(program, Unread; "{path}: could not be read: {error}")),
+        Ok(found) if !found.is_file() => Err(
+            ended!(program, Refused; "{path}: is no file; a folder or a link is never replaced"),
+        ),
         Ok(_) if !target.is_over => Err(
-            ended!(*program, Refused; "{path}: is there already; --over takes its place"),
+            ended!(program, Refused; "{path}: is there already; --over takes its place"),
         ),
         Ok(found) => Ok(Some(found)),
     }
@@ -60,12 +76,7 @@ fn rename(program: &Program, aside: &str, target: Target<'_>) -> io::Result<()> 
 
 /// Sees that the name of a file lasts.
 fn sync_name(program: &Program, path: &str) -> io::Result<()> {
-    let folder = match path.rsplit_once('/') {
-        None => ".",
-        Some(("", _)) => "/",
-        Some((folder, _)) => folder,
-    };
-    File::open(&program.rt, folder)?.sync_all()
+    File::open(&program.rt, parent_of(path))?.sync_all()
 }
 
 /// Gives a file its name.
@@ -104,18 +115,21 @@ fn fill(
     show_into(opened, of, file, aside)
 }
 
-/// The path that a file has until it is whole.
+/// The path that a file has until it is whole. No volume has such a name, so no file of a set has this path.
 fn path_aside(program: &Program, path: &str) -> Result<String, AllocError> {
-    format!(in program.alloc(); "{path}.restored")
+    format!(in program.alloc(); "{path}~restored")
 }
 
 /// `restore F [SET] NAME FILE`: FILE has what the image, or the volume, has. If that fails, what was there stays.
 pub fn restore(opened: &mut Opened, of: Shown<'_>, target: Target<'_>) -> Result<(), Status> {
     let program = opened.folder.program;
-    let old = replaced(&program, target)?;
+    let old = replaced(&opened.folder, target)?;
     let aside = path_aside(&program, target.path)?;
     let file = made_aside(&program, aside.as_str())?;
     let mut done = fill(opened, of, file, aside.as_str(), old);
+    if done.is_ok() {
+        done = opened.folder.end_beside();
+    }
     if done.is_ok() {
         done = put(&program, aside.as_str(), target);
     }
@@ -145,10 +159,7 @@ fn parts_of(opened: &Opened, set: u32, folder: &str) -> Result<Vec<Part>, Status
         }
     }
     if parts.is_empty() {
-        let store = opened.folder.path.as_str();
-        return Err(
-            ended!(program, Refused; "{store}: set {set}: there is no image of it; ./images sets shows all"),
-        );
+        return Err(no_image(opened, set));
     }
     Ok(parts)
 }
@@ -164,7 +175,7 @@ fn fill_parts<'p>(
     let program = opened.folder.program;
     for Part { name, path } in parts {
         let (name, path) = (name.as_str(), path.as_str());
-        let old = replaced(&program, Target { path, is_over })?;
+        let old = replaced(&opened.folder, Target { path, is_over })?;
         let aside = path_aside(&program, path)?;
         let file = made_aside(&program, aside.as_str())?;
         let set = Some(set);
@@ -193,17 +204,34 @@ fn put_parts(program: &Program, made: &[&str], is_over: bool) -> Result<(), Stat
     }
 }
 
+/// That the file of a part may be made. One that is there stays if the set's was not there; then the call is refused.
+fn check_part(opened: &mut Opened, set: u32, part: &Part, is_over: bool) -> Result<(), Status> {
+    let path = part.path.as_str();
+    if replaced(&opened.folder, Target { path, is_over })?.is_none() {
+        return Ok(());
+    }
+    let volume = opened.place_of_image(set, part.name.as_str())?;
+    match length_of(opened, volume, Which::Of(set))? {
+        Some(_) => Ok(()),
+        None => Err(
+            ended!(opened.folder.program, Refused; "{path}: is there, and was not in set {set}; remove it first"),
+        ),
+    }
+}
+
 /// `restore F SET FOLDER`: each file of the set gets the name of its volume there, once all are made. Before the first is made each name is
 /// looked at. If it fails, what has no name yet goes.
 pub fn restore_set(opened: &mut Opened, set: u32, target: Target<'_>) -> Result<(), Status> {
     let (program, is_over) = (opened.folder.program, target.is_over);
     let parts = parts_of(opened, set, target.path)?;
-    for Part { path, .. } in &parts {
-        let path = path.as_str();
-        let _ = replaced(&program, Target { path, is_over })?;
+    for part in &parts {
+        check_part(opened, set, part, is_over)?;
     }
     let mut made = Vec::with_capacity(program.alloc(), parts.len())?;
     let mut done = fill_parts(opened, set, &parts, is_over, &mut made);
+    if done.is_ok() {
+        done = opened.folder.end_beside();
+    }
     if done.is_ok() {
         done = put_parts(&program, &made, is_over);
     }

@@ -85,6 +85,12 @@ fn drop_images(store: &mut Files, set: u32, only: Option<u32>) -> u32 {
     count
 }
 
+/// Says that there is no image of a set.
+pub fn no_image(opened: &Opened, set: u32) -> Status {
+    let folder = opened.folder.path.as_str();
+    ended!(opened.folder.program, Refused; "{folder}: set {set}: there is no image of it; ./images sets shows all")
+}
+
 /// `delete F SET [NAME]`: the images of a set go.
 pub fn delete(opened: &mut Opened, set: u32, name: Option<&str>) -> Result<(), Status> {
     opened.check_transit(&[])?;
@@ -94,10 +100,7 @@ pub fn delete(opened: &mut Opened, set: u32, name: Option<&str>) -> Result<(), S
     };
     let count = drop_images(&mut opened.store, set, only);
     if count == 0 {
-        let folder = opened.folder.path.as_str();
-        return Err(
-            ended!(opened.folder.program, Refused; "{folder}: set {set}: there is no image of it; ./images sets shows all"),
-        );
+        return Err(no_image(opened, set));
     }
     write!(opened.text, "deleted {count}\n")?;
     opened.commit_marked("delete\n")
@@ -132,19 +135,13 @@ fn drop_newer(store: &mut Files, set: u32, volume: u32)
     }
 }
 
-/// `revert F SET NAME`: a volume is brought back to its image of a set. The order of the steps is the point: the newer images go and that is
-/// committed, then blocks are restored and synced, and then the slots that this set free are committed as free.
+/// `revert F SET NAME`: a volume is brought back to its image of a set. In memory the newer images go first.
 pub fn revert(opened: &mut Opened, set: u32, name: &str) -> Result<(), Status> {
     opened.check_transit(&[name])?;
     let volume = opened.place_of_image(set, name)?;
     opened.settle()?;
-    let text = format!(in opened.folder.program.alloc(); "revert\n{name}\n")?;
+    let lines = format!(in opened.folder.program.alloc(); "revert\n{name}\n")?;
     drop_newer(&mut opened.store, set, volume);
-    opened.commit_marked(text.as_str())?;
-    opened.folder.note_together(&[name])?;
-    let volume = opened.place_of(name)?;
-    if opened.store.revert(set, volume).is_err() || opened.store.flush(volume).is_err() {
-        return Err(Status::DeviceFault);
-    }
-    opened.commit()
+    opened.revert(lines.as_str(), set, volume)?;
+    opened.folder.note_together(&[name])
 }

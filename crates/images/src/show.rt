@@ -5,19 +5,23 @@ ghost use Rattle.std.specs.Prelude.{◌≡◌, ◌<◌, length, IfOk};
 use crate::shown_sink::ShownSink;
 use crate::task::Shown;
 use block_data::{BLOCK, Hasher};
-use image_folder::{ABSENT, AREA, Opened, Progress, Status, ended, name_in};
+use image_folder::{ABSENT, AREA, Opened, Program, Progress, Status, ended, name_in};
 use image_store::{ShowFault, Which};
 use std::fs::File;
+use std::io;
 use std::io::{Stdout, Write};
 
-/// Says that the folder was left open. What is in transit is refused.
+/// Says that the folder was left open. What is in transit is refused. Beside another process the marker is of a call that goes on.
 fn check_marker(opened: &Opened, volume: u32, which: Which) -> Result<(), Status>
     requires { volume < length opened.now.store.group.area.volumes }
 {
+    let folder = &opened.folder;
     let Some(marker) = &opened.marker else {
         return Ok(());
     };
-    let folder = &opened.folder;
+    if folder.is_beside() {
+        return Ok(());
+    }
     let status = ended!(folder.program, Unclean; "{}: left open by {marker}", folder.path);
     match which {
         Which::Now if marker.has(&opened.store, volume) => Err(status),
@@ -59,7 +63,8 @@ pub fn refusal(opened: &Opened, volume: u32, which: Which, fault: ShowFault) -> 
                 ended!(opened.folder.program, Damaged; "{folder}/{AREA}: set {set} of {name}: length: {found} in {size} bytes")
             }
         },
-        ShowFault::Sink => ended!(opened.folder.program, WriteFault; "write fault"),
+        ShowFault::Sink =>
+            ended!(opened.folder.program, WriteFault; "write fault; is the disk full, or a pipe closed?"),
         _ => Status::DeviceFault,
     }
 }
@@ -114,6 +119,14 @@ pub fn digest(opened: &mut Opened, of: Shown<'_>) -> Result<(), Status> {
     Ok(())
 }
 
+/// Says why a file could not be written.
+fn unwritten(program: &Program, path: &str, last: Option<io::Error>) -> Status {
+    match last {
+        Some(error) => ended!(*program, WriteFault; "{path}: could not be written: {error}"),
+        None => ended!(*program, WriteFault; "{path}: could not be written"),
+    }
+}
+
 /// Writes a file into another one, and sees that it lasts. What could not be written is said of its path.
 pub fn show_into(opened: &mut Opened, of: Shown<'_>, file: File, path: &str) -> Result<(), Status> {
     let program = opened.folder.program;
@@ -121,9 +134,7 @@ pub fn show_into(opened: &mut Opened, of: Shown<'_>, file: File, path: &str) -> 
     let mut sink = ShownSink::new(&program, file, None);
     match fill(opened, volume, which, "restored", &mut sink) {
         Ok(()) => {}
-        Err(ShowFault::Sink) => return Err(
-            ended!(program, WriteFault; "{path}: could not be written"),
-        ),
+        Err(ShowFault::Sink) => return Err(unwritten(&program, path, sink.last)),
         Err(fault) => return Err(refusal(opened, volume, which, fault)),
     }
     match sink.into_out().sync_all() {

@@ -1,7 +1,8 @@
 use block_data::Hasher;
 use image_folder::{Program, Progress};
 use io_edge::Sink;
-use std::io::Write;
+use std::io;
+use std::io::{ErrorKind, Write};
 use vss_names::Failed;
 
 /// Where the bytes of a file go that is shown: out, or into a digest. Each piece is counted on the terminal.
@@ -9,6 +10,8 @@ use vss_names::Failed;
 pub struct ShownSink<W: Write + Drop> {
     out: W,
     faults: u64,
+    /// Why it took no more.
+    pub last: Option<io::Error>,
     pub hasher: Option<Hasher>,
     pub progress: Progress,
 }
@@ -19,6 +22,7 @@ impl<W: Write + Drop> ShownSink<W> {
         ShownSink {
             out,
             faults: 0,
+            last: None,
             hasher,
             progress: Progress::new(program, "", 0),
         }
@@ -43,13 +47,14 @@ impl<W: Write + Drop> Sink for ShownSink<W> {
             hasher.add(piece);
             return Ok(piece.len());
         }
-        match self.out.write(piece) {
-            Ok(n) if n > 0 && n <= piece.len() => Ok(n),
-            _ => {
-                self.faults = self.faults.saturating_add(1);
-                Err(Failed)
-            }
-        }
+        let fault = match self.out.write(piece) {
+            Ok(n) if n > 0 && n <= piece.len() => return Ok(n),
+            Ok(_) => io::Error::from(ErrorKind::WriteZero),
+            Err(error) => error,
+        };
+        self.last = Some(fault);
+        self.faults = self.faults.saturating_add(1);
+        Err(Failed)
     }
 
     fn faults(&self) -> u64 {

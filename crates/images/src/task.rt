@@ -1,3 +1,4 @@
+use crate::diff::Span;
 use crate::mistake::Mistake;
 use crate::options::Options;
 use crate::restoring::Target;
@@ -24,10 +25,22 @@ pub enum Task<'a> {
         keep: u32,
         pairs: &'a [String],
     },
+    /// What an update would need.
+    Forecast {
+        /// How many sets are to stay at least.
+        keep: u32,
+        pairs: &'a [String],
+    },
     List {
         is_json: bool,
     },
     Sets,
+    /// Without a name, of each volume that has an image of one of the sets.
+    Diff {
+        span: Span,
+        name: Option<&'a str>,
+        is_json: bool,
+    },
     Show(Shown<'a>),
     Digest(Shown<'a>),
     Restore {
@@ -52,6 +65,17 @@ pub enum Task<'a> {
         set: u32,
         name: &'a str,
     },
+    GrowSlots(u32),
+    GrowVolume {
+        name: &'a str,
+        blocks: u32,
+    },
+    /// The volume of this pair.
+    Add {
+        tries: u32,
+        pair: Pair<'a>,
+    },
+    Remove(&'a str),
     Check,
 }
 
@@ -143,9 +167,13 @@ fn restore_of<'a>(is_over: bool, words: &'a [String]) -> Result<Task<'a>, Mistak
 /// What `update` makes of these words.
 fn update_of<'a>(options: Options<'a>, words: &'a [String]) -> Result<Task<'a>, Mistake<'a>> {
     check_pairs(words, false)?;
+    let keep = options.keep.unwrap_or(0);
+    if options.is_dry {
+        return Ok(Task::Forecast { keep, pairs: words });
+    }
     Ok(Task::Update {
         tries: options.tries.unwrap_or(TRIES),
-        keep: options.keep.unwrap_or(0),
+        keep,
         pairs: words,
     })
 }
@@ -177,6 +205,66 @@ fn set_and_name<'a>(words: &'a [String]) -> Result<(u32, Option<&'a str>), Mista
     }
 }
 
+/// What `diff` makes of these words: a second number is a set.
+fn diff_of<'a>(is_json: bool, words: &'a [String]) -> Result<Task<'a>, Mistake<'a>> {
+    let [word, rest @ ..] = words else {
+        return Err(Mistake::Missing("SET"));
+    };
+    let set = set_in(word.as_str())?;
+    let (other, rest) = match rest {
+        [word, rest @ ..] if set_of(word.as_str()).is_some() => (set_of(word.as_str()), rest),
+        _ => (None, rest),
+    };
+    let name = match rest {
+        [] => None,
+        [name, more @ ..] => {
+            check_end(more)?;
+            Some(name.as_str())
+        }
+    };
+    Ok(Task::Diff {
+        span: Span { set, other },
+        name,
+        is_json,
+    })
+}
+
+/// What `grow` makes of these words.
+fn grow_of<'a>(words: &'a [String]) -> Result<Task<'a>, Mistake<'a>> {
+    let [word, more @ ..] = words else {
+        return Err(Mistake::Missing("SLOTS or NAME=BLOCKS"));
+    };
+    check_end(more)?;
+    let word = word.as_str();
+    let Some((name, blocks)) = word.split_once('=') else {
+        let slots = number_of(word).ok_or(Mistake::NoNumber("SLOTS", 0, word))?;
+        return Ok(Task::GrowSlots(slots));
+    };
+    let blocks = number_of(blocks).ok_or(Mistake::NoNumber("BLOCKS", 1, blocks))?;
+    Ok(Task::GrowVolume { name, blocks })
+}
+
+/// What `add` makes of these words.
+fn add_of<'a>(tries: u32, words: &'a [String]) -> Result<Task<'a>, Mistake<'a>> {
+    let [word, more @ ..] = words else {
+        return Err(Mistake::Missing("NAME=FILE"));
+    };
+    check_end(more)?;
+    match Pair::of(word.as_str()) {
+        Some(pair) => Ok(Task::Add { tries, pair }),
+        None => Err(Mistake::NoPair(word.as_str())),
+    }
+}
+
+/// The volume that `remove` takes away.
+fn remove_of<'a>(words: &'a [String]) -> Result<Task<'a>, Mistake<'a>> {
+    let [name, more @ ..] = words else {
+        return Err(Mistake::Missing("NAME"));
+    };
+    check_end(more)?;
+    Ok(Task::Remove(name.as_str()))
+}
+
 impl<'a> Task<'a> {
     /// What the first word, the options and the words after the folder ask for.
     pub fn of(
@@ -201,6 +289,7 @@ impl<'a> Task<'a> {
             "list" => Task::List {
                 is_json: options.is_json,
             },
+            "diff" => diff_of(options.is_json, rest)?,
             "show" => Task::Show(words_shown(rest)?),
             "digest" => Task::Digest(words_shown(rest)?),
             "restore" => restore_of(options.is_over, rest)?,
@@ -215,6 +304,9 @@ impl<'a> Task<'a> {
                 (set, Some(name)) => Task::Revert { set, name },
                 _ => return Err(Mistake::Missing("NAME")),
             },
+            "grow" => grow_of(rest)?,
+            "add" => add_of(options.tries.unwrap_or(TRIES), rest)?,
+            "remove" => remove_of(rest)?,
             "check" => Task::Check,
             _ => return Err(Mistake::NoCommand(word)),
         })
@@ -224,9 +316,13 @@ impl<'a> Task<'a> {
     pub fn way(self) -> Way {
         match self {
             Task::Check => Way::Checking,
-            Task::Show(_) | Task::Digest(_) => Way::Showing,
-            Task::Restore { .. } | Task::RestoreSet { .. } => Way::Showing,
-            Task::List { .. } | Task::Sets => Way::Showing,
+            Task::Show(of) | Task::Digest(of) | Task::Restore { of, .. } if of.set.is_none() => {
+                Way::Showing
+            }
+            Task::Forecast { .. } => Way::Comparing,
+            Task::Show(_) | Task::Digest(_) => Way::Beside,
+            Task::Restore { .. } | Task::RestoreSet { .. } => Way::Beside,
+            Task::List { .. } | Task::Sets | Task::Diff { .. } => Way::Beside,
             _ => Way::Writing,
         }
     }

@@ -5,6 +5,8 @@ use std::alloc::{AllocFailed, Global};
 /// A volume of the folder, and the file that it is brought to.
 #[derive(Clone, Copy)]
 pub struct JobVolume<'a> {
+    /// The line that declares it, counted from 1.
+    pub line: u32,
     pub name: &'a str,
     pub file: &'a str,
     /// Whether a file that is not there counts as empty.
@@ -86,13 +88,13 @@ impl<'a> Job<'a> {
     }
 
     /// The number of the volume of a name.
-    fn volume_of(&self, name: &str) -> Result<u32, Stopped> {
+    fn volume_of(&self, name: &str) -> Option<u32> {
         for (place, volume) in self.volumes.iter().enumerate() {
             if volume.name == name {
-                return Ok(number_of(place));
+                return Some(number_of(place));
             }
         }
-        refuse(JobReason::NoSuchVolume)
+        None
     }
 
     /// Whether a component has a volume.
@@ -101,16 +103,17 @@ impl<'a> Job<'a> {
     }
 
     /// `volume NAME FILE`, `volume NAME FILE or-none`
-    fn add_volume(&mut self, rest: &'a str) -> Result<(), Stopped> {
+    fn add_volume(&mut self, line: u32, rest: &'a str) -> Result<(), Stopped> {
         let (name, rest) = halves(rest)?;
-        if self.volume_of(name).is_ok() {
-            return refuse(JobReason::Twice);
+        if self.volume_of(name).is_some() {
+            return refuse(JobReason::Twice { field: 1 });
         }
         let (file, may_lack) = match rest.strip_suffix(" or-none") {
             Some(file) => (file, true),
             None => (rest, false),
         };
         self.volumes.push(JobVolume {
+            line,
             name,
             file,
             may_lack,
@@ -122,7 +125,7 @@ impl<'a> Job<'a> {
     fn add_writer(&mut self, rest: &'a str) -> Result<(), Stopped> {
         let (name, document) = halves(rest)?;
         if self.writer_of(name).is_ok() {
-            return refuse(JobReason::Twice);
+            return refuse(JobReason::Twice { field: 1 });
         }
         self.writers.push(JobWriter { name, document })?;
         Ok(())
@@ -133,8 +136,11 @@ impl<'a> Job<'a> {
         let (name, rest) = halves(rest)?;
         let writer = self.writer_of(name)?;
         let (component, names) = halves(rest)?;
-        for name in names.split(' ') {
-            let volume = self.volume_of(name)?;
+        for (place, name) in names.split(' ').enumerate() {
+            let field = number_of(place).saturating_add(3);
+            let Some(volume) = self.volume_of(name) else {
+                return refuse(JobReason::NoSuchVolume { field });
+            };
             self.holdings.push(Holding {
                 writer,
                 component,
@@ -155,7 +161,7 @@ impl<'a> Job<'a> {
     /// `least N`
     fn set_least(&mut self, rest: &str) -> Result<(), Stopped> {
         if self.least.is_some() {
-            return refuse(JobReason::Twice);
+            return refuse(JobReason::Twice { field: 0 });
         }
         match rest.parse::<u32>() {
             Ok(least) => {
@@ -166,33 +172,48 @@ impl<'a> Job<'a> {
         }
     }
 
-    /// Takes a line behind the first.
-    fn add(&mut self, line: &'a str) -> Result<(), Stopped> {
+    /// `hook WRITER COMMAND ..`
+    fn check_hook(&self, rest: &str) -> Result<(), Stopped> {
+        let (name, _command) = halves(rest)?;
+        self.writer_of(name).map(|_writer| ())
+    }
+
+    /// Takes a line behind the first, of this number.
+    fn add(&mut self, number: u32, line: &'a str) -> Result<(), Stopped> {
         if line.is_empty() || line.starts_with('#') {
             return Ok(());
         }
         let (word, rest) = line.split_once(' ').unwrap_or((line, ""));
         match word {
-            "volume" => self.add_volume(rest),
+            "volume" => self.add_volume(number, rest),
             "writer" => self.add_writer(rest),
             "files" => self.add_files(rest),
             "take" => self.add_taken(rest),
             "least" => self.set_least(rest),
-            "hook" => self
-                .writer_of(rest.split(' ').next().unwrap_or(""))
-                .map(|_writer| ()),
+            "hook" => self.check_hook(rest),
             _ => refuse(JobReason::UnknownWord),
         }
     }
 
-    /// What is wrong with the job as a whole.
-    fn fault(&self) -> Option<JobReason> {
-        if self.volumes.is_empty() || self.writers.is_empty() {
-            return Some(JobReason::Nothing);
+    /// What is wrong with the job as a whole, whose last line has this number.
+    fn fault(&self, last: u32) -> Option<JobFault> {
+        let line = last.saturating_add(1);
+        if last == 0 {
+            let reason = JobReason::NotJob;
+            return Some(JobFault::Line { line, reason });
         }
-        for volume in 0..self.volumes.len() {
-            if !self.is_held(number_of(volume)) {
-                return Some(JobReason::NobodyHolds);
+        if self.volumes.is_empty() {
+            let reason = JobReason::NoVolume;
+            return Some(JobFault::Line { line, reason });
+        }
+        if self.writers.is_empty() {
+            let reason = JobReason::NoWriter;
+            return Some(JobFault::Line { line, reason });
+        }
+        for (place, volume) in self.volumes.iter().enumerate() {
+            if !self.is_held(number_of(place)) {
+                let (line, reason) = (volume.line, JobReason::NobodyHolds);
+                return Some(JobFault::Line { line, reason });
             }
         }
         None
@@ -213,7 +234,7 @@ impl<'a> Job<'a> {
             let done = match number {
                 1 if line == "job 1" => Ok(()),
                 1 => refuse(JobReason::NotJob),
-                _ => job.add(line),
+                _ => job.add(number, line),
             };
             match done {
                 Ok(()) => {}
@@ -226,12 +247,9 @@ impl<'a> Job<'a> {
                 }
             }
         }
-        match job.fault() {
+        match job.fault(number) {
             None => Ok(job),
-            Some(reason) => Err(JobFault::Line {
-                line: number.saturating_add(1),
-                reason,
-            }),
+            Some(fault) => Err(fault),
         }
     }
 }

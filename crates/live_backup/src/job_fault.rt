@@ -16,27 +16,56 @@ pub enum JobReason {
     /// The word has other fields.
     Fields,
     NoSuchWriter,
-    NoSuchVolume,
-    /// What a line may say once is said again.
-    Twice,
-    /// There is no volume, or no writer: it is said of the line after the last.
-    Nothing,
+    /// The volume that this field of the line names; field 0 is the word.
+    NoSuchVolume { field: u32 },
+    /// What this field says may be said once, and a line above says it.
+    Twice { field: u32 },
+    /// There is no volume: it is said of the line after the last.
+    NoVolume,
+    /// There is no writer: it is said of the line after the last.
+    NoWriter,
     /// No component has this volume, so nobody would hold its file still.
     NobodyHolds,
 }
 
+/// The form of the lines of a word.
+fn form_of(word: &str) -> &'static str {
+    match word {
+        "volume" => "the form is `volume NAME FILE` or `volume NAME FILE or-none`",
+        "writer" => "the form is `writer NAME DOCUMENT`",
+        "files" => "the form is `files WRITER COMPONENT VOLUME ..`",
+        "take" => "the form is `take WRITER COMPONENT`",
+        "hook" => "the form is `hook WRITER COMMAND ..`",
+        _ => "the form is `least N`, with N from 0 to 4294967295",
+    }
+}
+
 impl JobReason {
-    /// What is said of it.
-    pub fn said(self) -> &'static str {
+    /// Which field of the line it is about; field 0 is the word.
+    pub fn field(self) -> u32 {
         match self {
-            JobReason::NotJob => "a job begins with `job 1`",
-            JobReason::UnknownWord => "unknown word",
-            JobReason::Fields => "other fields than the word has",
-            JobReason::NoSuchWriter => "there is no such writer",
-            JobReason::NoSuchVolume => "there is no such volume",
-            JobReason::Twice => "it is said twice",
-            JobReason::Nothing => "there is no volume, or no writer",
-            JobReason::NobodyHolds => "a volume is in no component",
+            JobReason::NoSuchVolume { field } | JobReason::Twice { field } => field,
+            JobReason::NoSuchWriter | JobReason::NobodyHolds => 1,
+            _ => 0,
+        }
+    }
+
+    /// What is said of it, in a line that begins with this word.
+    pub fn said(self, word: &str) -> &'static str {
+        match self {
+            JobReason::NotJob => "a job begins with the line `job 1`",
+            JobReason::UnknownWord => {
+                "no line begins so; the words are volume, writer, files, take, hook and least"
+            }
+            JobReason::Fields => form_of(word),
+            JobReason::NoSuchWriter => "no line above has `writer` and this name",
+            JobReason::NoSuchVolume { .. } => "no line above has `volume` and this name",
+            JobReason::Twice { .. } => "a line above says it already",
+            JobReason::NoVolume => "there is no line `volume NAME FILE`",
+            JobReason::NoWriter => "there is no line `writer NAME DOCUMENT`",
+            JobReason::NobodyHolds => {
+                "no line `files ..` has this volume, so nobody would hold its file still"
+            }
         }
     }
 }

@@ -6,7 +6,7 @@ ghost use Rattle.component_doc.specs.Held.{metas_of, all_have_few};
 use crate::job::{Holding, Job};
 use crate::place::number_of;
 use crate::setting::SettingFault;
-use component_doc::{AddFault, Choice, Metas, Selection};
+use component_doc::{Choice, Metas, Selection};
 use std::alloc::Global;
 use vss_names::OutOfMemory;
 use writer_meta::Metadata;
@@ -28,15 +28,10 @@ fn selection_of(alloc: Global, job: &Job<'_>, metas: &Metas) -> Result<Selection
         return Ok(Selection::all(alloc, metas)?);
     }
     let mut selection = Selection::new(alloc, metas.len() as u32)?;
-    for taken in &job.taken {
+    for (place, taken) in job.taken.iter().enumerate() {
         match selection.add(alloc, metas, taken.writer, taken.component.as_bytes()) {
             Ok(()) => {}
-            Err(AddFault::OutOfMemory) => return Err(SettingFault::OutOfMemory),
-            Err(AddFault::NotFound | AddFault::NotSelectable | AddFault::AlreadyExists) => {
-                return Err(SettingFault::Component {
-                    writer: taken.writer,
-                });
-            }
+            Err(fault) => return Err(SettingFault::of_taken(number_of(place), fault)),
         }
     }
     Ok(selection)
@@ -93,7 +88,7 @@ fn is_in_set(
 
 /// That each component of which a job has files is one of its writer.
 fn check_holdings(alloc: Global, job: &Job<'_>, metas: &Metas) -> Result<(), SettingFault> {
-    for holding in &job.holdings {
+    for (place, holding) in job.holdings.iter().enumerate() {
         let mut is_there = false;
         if let Some(metadata) = metas.of_writer(holding.writer) {
             for component in metadata.components.items() {
@@ -101,8 +96,8 @@ fn check_holdings(alloc: Global, job: &Job<'_>, metas: &Metas) -> Result<(), Set
             }
         }
         if !is_there {
-            return Err(SettingFault::Component {
-                writer: holding.writer,
+            return Err(SettingFault::Files {
+                holding: number_of(place),
             });
         }
     }

@@ -4,7 +4,7 @@
 use crate::job::Job;
 use crate::members::Members;
 use crate::place::number_of;
-use component_doc::Metas;
+use component_doc::{AddFault, Metas};
 use scenario::{Op, Refused, Scenario, ScenarioBuilder};
 use std::alloc::{AllocError, AllocFailed, Global};
 use vss_names::OutOfMemory;
@@ -17,9 +17,26 @@ pub enum SettingFault {
     Volume { volume: u32 },
     /// A writer of this number may not: its name, its document, or how many there are.
     Writer { writer: u32 },
-    /// A writer has no component of a name that the job says, or it may not be taken by itself.
-    Component { writer: u32 },
+    /// The component of the holding of this number is none of its writer.
+    Files { holding: u32 },
+    /// The component that is taken at this place is none of its writer.
+    NotFound { taken: u32 },
+    /// It comes only with another component.
+    NotSelectable { taken: u32 },
+    TakenTwice { taken: u32 },
     OutOfMemory,
+}
+
+impl SettingFault {
+    /// That a selection refuses what is taken at a place.
+    pub(crate) fn of_taken(taken: u32, fault: AddFault) -> SettingFault {
+        match fault {
+            AddFault::NotFound => SettingFault::NotFound { taken },
+            AddFault::NotSelectable => SettingFault::NotSelectable { taken },
+            AddFault::AlreadyExists => SettingFault::TakenTwice { taken },
+            AddFault::OutOfMemory => SettingFault::OutOfMemory,
+        }
+    }
 }
 
 impl From<OutOfMemory> for SettingFault {
@@ -153,8 +170,11 @@ fn choose(
     mut builder: ScenarioBuilder,
     lines: &mut Vec<String>,
 ) -> Result<ScenarioBuilder, SettingFault> {
-    for taken in &job.taken {
+    for (place, taken) in job.taken.iter().enumerate() {
         let (writer, full) = (taken.writer, taken.component);
+        let fault = SettingFault::NotFound {
+            taken: number_of(place),
+        };
         let name = match job.writers.get(writer as usize) {
             Some(writer) => writer.name,
             None => "",
@@ -162,7 +182,7 @@ fn choose(
         lines.push(format!(in alloc; "component {name} {full}")?)?;
         builder = match builder.component(alloc, writer, full.as_bytes()) {
             Ok(builder) => builder,
-            Err(refused) => return Err(of_refused(refused, SettingFault::Component { writer })),
+            Err(refused) => return Err(of_refused(refused, fault)),
         };
     }
     Ok(builder)

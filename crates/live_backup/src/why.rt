@@ -16,7 +16,7 @@ pub enum Why {
     LongThaw,
     /// The volumes could not be brought near their files.
     NotNear,
-    /// A file could not be read whole.
+    /// A file could not be read whole, or be set aside.
     NotRead,
     /// A file changed while its writer was to stand still.
     Changed,
@@ -38,7 +38,7 @@ impl Why {
             Why::NotFrozen { writer } => ("it did not stand frozen to its thaw", Some(writer)),
             Why::LongThaw => ("a thaw takes more than 60 seconds", None),
             Why::NotNear => ("the volumes could not be brought near", None),
-            Why::NotRead => ("a file could not be read whole", None),
+            Why::NotRead => ("a file could not be read whole, or be set aside", None),
             Why::Changed => ("a file changed while its writer was to stand still", None),
             Why::NotKept => ("the folder could not keep it", None),
             Why::NotAllowed => ("what was done does not allow it", None),

@@ -2,6 +2,8 @@
 use Rattle.std.proofs.Common.{◌≡◌, ℕ, zero, suc, ◌≤◌, List, [], ◌∷◌, refl, ap, sym, ◌∙◌, arith, Bool, true, Option, Some, None, subst, inl, inr}
 use Rattle.std.specs.Prelude.{slice_get, slice_set, ◌&&◌, map, count_by, is_some, is_none, ◌==◌, OnOk, Result, Ok, Err}
 use Rattle.std.specs.List.{list_all}
+use Rattle.std.proofs.lemmas.Bool.Decides.{nat_tests}
+use Rattle.std.proofs.lemmas.Grind.{common_steps}
 use Rattle.vss_names.specs.Faults.{Rose}
 use Rattle.volume_device.specs.declared.device.Device.{Ghosts}
 use Rattle.write_history.specs.History.{History, Write, dropped, cut}
@@ -24,17 +26,12 @@ use Rattle.mirror_volume.proofs.Held.{map-slice_set}
 use Rattle.mirror_volume.proofs.Standing.{now_bytes, shown_bytes}
 use Rattle.mirror_volume.proofs.Ready.{AllLater, AnyRose, all_later, all_rose, later_itself, later_set, rose_set, all_later_followed, tells_followed, tells_set, ready_followed, ready_set, ready_split}
 use Rattle.mirror_volume.proofs.Ready.{ready_some}
-
-and_first : (s t : Bool) → (s && t) ≡ true → s ≡ true
-and_first s t e = grind arith
-
-and_second : (s t : Bool) → (s && t) ≡ true → t ≡ true
-and_second s t e = grind arith
+use Rattle.cow_volume.proofs.Merging.{and_left, and_right}
 
 all_at : {X : Type 0} → (test : X → Bool) (xs : List X) (k : ℕ) (x : X) → list_all test xs ≡ true → slice_get xs k ≡ Some x → test x ≡ true
 all_at test [] k x all at = cc
-all_at test (y ∷ xs) zero x all at = subst (λ z. test z ≡ true) (let same : y ≡ x = cc in same) (and_first (test y) (list_all test xs) all)
-all_at test (y ∷ xs) (suc k) x all at = all_at test xs k x (and_second (test y) (list_all test xs) all) at
+all_at test (y ∷ xs) zero x all at = subst (λ z. test z ≡ true) (let same : y ≡ x = cc in same) (and_left (test y) (list_all test xs) all)
+all_at test (y ∷ xs) (suc k) x all at = all_at test xs k x (and_right (test y) (list_all test xs) all) at
 
 -- ## what is kept
 
@@ -117,7 +114,7 @@ module _ {D : Type 0} (ghosts : Ghosts D) where
     is.0,
     λ h stood tell.
         now_bytes (ghosts.told old.primary) (ghosts.size old.primary) b bytes h stood.primary is.1 is.0
-        (and_first (is_some (ghosts.told old.primary)) (list_all (λ m. is_some (ghosts.told m.device)) old.mirrors) tell),
+        (and_left (is_some (ghosts.told old.primary)) (list_all (λ m. is_some (ghosts.told m.device)) old.mirrors) tell),
   )
   read_is old new b bytes (Err cause) is = block_cause old new b cause is.0 is.1
 
@@ -141,21 +138,10 @@ module _ {D : Type 0} (ghosts : Ghosts D) where
       (slice_get_map (λ (x : Mirror D). ghosts.count x.device) old.mirrors k m is.was) rose)))
 
   called_same : (old new : MirrorValue D) (k : ℕ) (m : Mirror D) → IsQuietOn ghosts old new k m → IsSame (tells ghosts.told) (λ v. ghosts.size v.primary) (λ v. None) (faults_of ghosts.count) old new
-  called_same old new k m is = record {
-    tells_is = ap (λ (d : D). is_some (ghosts.told d) && list_all (λ x. is_some (ghosts.told x.device)) new.mirrors) is.primary
-        ∙ ap (λ (t : Bool). is_some (ghosts.told old.primary) && t) (ap (list_all (λ x. is_some (ghosts.told x.device))) is.mirrors
-        ∙ tells_set (λ x. is_some (ghosts.told x.device)) old.mirrors k m (record { device = is.after; holds = m.holds; stale = m.stale }) is.was
-        (ap (λ (t : Option (List (List ℕ))). is_some t) is.device.told_is));
-    size_is = ap ghosts.size is.primary;
-    slots_is = refl;
-    later = all_later (ghosts.count old.primary) (ghosts.count new.primary) (map (λ x. ghosts.count x.device) old.mirrors) (map (λ x. ghosts.count x.device) new.mirrors)
-        (let same = ap ghosts.count is.primary in omega arith) (called_later old new k m is);
-  }
+  called_same old new k m is = grind (arith, common_steps, nat_tests, tells_set, all_later, called_later old new k m is)
 
   called_ready : (old new : MirrorValue D) (k : ℕ) (m : Mirror D) → IsQuietOn ghosts old new k m → IsNoLessReady ready_count (faults_of ghosts.count) old new
-  called_ready old new k m is =
-      inl (subst (λ (ms : List (Mirror D)). count_by is_ready old.mirrors ≤ count_by is_ready ms) (sym is.mirrors)
-      (ready_set old.mirrors k m (record { device = is.after; holds = m.holds; stale = m.stale }) is.was (λ r. r)))
+  called_ready old new k m is = grind (arith, common_steps, ready_set old.mirrors k m)
 
   pub image_same : (old new : MirrorValue D) (set b : ℕ) (bytes : List ℕ) (result : Result Unit ImageFault) → IsImageRead ghosts old new set b bytes result
       → IsSame (tells ghosts.told) (λ v. ghosts.size v.primary) (λ v. None) (faults_of ghosts.count) old new
@@ -179,9 +165,9 @@ module _ {D : Type 0} (ghosts : Ghosts D) where
     λ h p stood tell at.
         shown_bytes (ghosts.told old.primary) (ghosts.told is.0.mirror.device) (ghosts.size old.primary) b set p bytes is.0.mirror.holds is.0.mirror.stale h
         (stood.mirrors is.0.place is.0.mirror is.0.quiet.was) is.0.held at is.1 is.0.in_range
-        (and_first (is_some (ghosts.told old.primary)) (list_all (λ m. is_some (ghosts.told m.device)) old.mirrors) tell)
+        (and_left (is_some (ghosts.told old.primary)) (list_all (λ m. is_some (ghosts.told m.device)) old.mirrors) tell)
         (all_at (λ m. is_some (ghosts.told m.device)) old.mirrors is.0.place is.0.mirror
-        (and_second (is_some (ghosts.told old.primary)) (list_all (λ m. is_some (ghosts.told m.device)) old.mirrors) tell) is.0.quiet.was),
+        (and_right (is_some (ghosts.told old.primary)) (list_all (λ m. is_some (ghosts.told m.device)) old.mirrors) tell) is.0.quiet.was),
   )
   image_is old new set b bytes (Err NoSuchImage) is = is.0
   image_is old new set b bytes (Err NoBlock) is = (is.0, is.1)
@@ -197,8 +183,7 @@ module _ {D : Type 0} (ghosts : Ghosts D) where
 
   pub cut_same : {E : Type 0} (old new : MirrorValue D) (set : ℕ) (result : Result Unit E) → IsCut old new set result
       → IsSame (tells ghosts.told) (λ v. ghosts.size v.primary) (λ v. None) (faults_of ghosts.count) old new
-  cut_same old new set (Ok done) is = moved_same old new is.place is.split.mirror
-      (record { device = is.split.mirror.device; holds = Some set; stale = is.split.mirror.stale }) is.primary is.split.was refl is.mirrors
+  cut_same old new set (Ok done) is = grind (arith, common_steps, moved_same old new is.place is.split.mirror)
   cut_same old new set (Err refused) is = itself_same old new is.1
 
   pub cut_is : {E : Type 0} (old new : MirrorValue D) (set : ℕ) (result : Result Unit E) → IsCut old new set result → OnOk result (StandsAfter (StandsFor ghosts) old new (cut set))
@@ -207,15 +192,12 @@ module _ {D : Type 0} (ghosts : Ghosts D) where
 
   pub drop_same : (old new : MirrorValue D) (set : ℕ) (result : Result Unit ImageFault) → IsDropped old new set result
       → IsSame (tells ghosts.told) (λ v. ghosts.size v.primary) (λ v. None) (faults_of ghosts.count) old new
-  drop_same old new set (Ok done) is = moved_same old new is.1.place is.1.mirror
-      (record { device = is.1.mirror.device; holds = None; stale = is.1.mirror.stale }) is.1.primary is.1.was refl is.1.mirrors
+  drop_same old new set (Ok done) is = grind (arith, common_steps, moved_same old new is.1.place is.1.mirror)
   drop_same old new set (Err fault) is = itself_same old new is.2
 
   pub drop_ready : (old new : MirrorValue D) (set : ℕ) (result : Result Unit ImageFault) → IsDropped old new set result → IsNoLessReady ready_count (faults_of ghosts.count) old new
   drop_ready old new set (Ok done) is =
-      inl (subst (λ (ms : List (Mirror D)). count_by is_ready old.mirrors ≤ count_by is_ready ms) (sym is.1.mirrors)
-      (ready_set old.mirrors is.1.place is.1.mirror (record { device = is.1.mirror.device; holds = None; stale = is.1.mirror.stale }) is.1.was
-      (λ ready. and_second (is_none is.1.mirror.holds) (stale_count is.1.mirror.stale == 0) ready)))
+      grind (arith, common_steps, ready_set old.mirrors is.1.place is.1.mirror, and_right (is_none is.1.mirror.holds) (stale_count is.1.mirror.stale == 0))
   drop_ready old new set (Err fault) is = itself_ready old new is.2
 
   pub drop_is : (old new : MirrorValue D) (set : ℕ) (result : Result Unit ImageFault) → IsDropped old new set result → OnOk result (StandsAfter (StandsFor ghosts) old new (dropped set))

@@ -4,6 +4,8 @@ use Rattle.std.specs.Prelude.{slice_get, slice_set, count_by, if◌then◌else�
 use Rattle.slot_pool.specs.Slots.{IsTaken, IsLowestFree, free_count}
 use Rattle.std.proofs.lemmas.List.Sums.{count_by-le-length, sum_by-cons}
 use Rattle.std.proofs.lemmas.List.{length-replicate}
+use Rattle.std.proofs.lemmas.Grind.{common_steps}
+use Rattle.std.proofs.lemmas.Bool.Decides.{nat_tests}
 use Rattle.cow_volume.proofs.Group.{slice_get_inside, slice_get-set_same, slice_get-set_other, length-slice_set, same_number, other_number}
 use Rattle.mirror_volume.specs.Stale.{IsInStep, stale_count, HoldsStale, KeepsStale}
 
@@ -44,8 +46,7 @@ pub count_most : (xs : List Bool) → stale_count xs ≤ length xs
 count_most xs = count_by-le-length (λ x. x) xs
 
 pub count-none : (n : ℕ) → stale_count (replicate n false) ≡ 0
-count-none zero = refl
-count-none (suc n) = stale-false (replicate n false) ∙ count-none n
+count-none n = grind (arith, common_steps, stale-false)
 
 -- a stale block is counted
 pub count_some : (xs : List Bool) (i : ℕ) → slice_get xs i ≡ Some true → 0 < stale_count xs
@@ -59,12 +60,7 @@ count_zero (false ∷ xs) none = stale-false xs ∙ count_zero xs (λ i. none (s
 
 -- where none is counted, each block is in step
 pub in_step_all : (xs : List Bool) (i : ℕ) → stale_count xs ≡ 0 → i < length xs → IsInStep xs i
-in_step_all xs i none within =
-    let found = slice_get_inside xs i within in
-    by_bool found.0 found.1 where
-      by_bool : (x : Bool) → slice_get xs i ≡ Some x → IsInStep xs i
-      by_bool true at = let some = count_some xs i at in absurd (omega arith)
-      by_bool false at = at
+in_step_all xs i none within = grind (arith, common_steps, nat_tests, count_some, slice_get_inside xs i within)
 
 pub none_of_replicate : (n i : ℕ) → slice_get (replicate n false) i ≡ Some true → ⊥
 none_of_replicate zero i h = cc
@@ -73,11 +69,7 @@ none_of_replicate (suc n) (suc i) h = none_of_replicate n i h
 
 -- a block that is not stale leaves room for one more
 pub count_few : (xs : List Bool) (i : ℕ) → slice_get xs i ≡ Some false → stale_count xs < length xs
-count_few xs i at =
-    let more = count-marked xs i at in
-    let most = count_most (slice_set xs i true) in
-    let long = length-slice_set xs i true in
-    omega arith
+count_few xs i at = grind (arith, common_steps, count-marked xs i, count_most (slice_set xs i true), length-slice_set xs i true)
 
 -- ## what is kept
 
@@ -86,8 +78,7 @@ pub keeps_new : (n : ℕ) → n < 2 ^ 32 → KeepsStale (replicate n false) (rep
 keeps_new n low = grind (arith, length-replicate, none_of_replicate, count-none)
 
 count-all : (n : ℕ) → stale_count (replicate n true) ≡ n
-count-all zero = refl
-count-all (suc n) = let all = count-all n in let more = stale-true (replicate n true) in omega arith
+count-all n = grind (arith, common_steps, stale-true)
 
 pub keeps_stale : (n : ℕ) → n < 2 ^ 32 → KeepsStale (replicate n true) (replicate n true) n
 keeps_stale n low = grind (arith, count-all, length-replicate)
@@ -130,13 +121,7 @@ pub is_taken_of : (result : Bool) (queue : List Bool) (b : ℕ) → (IsTrue resu
 is_taken_of result queue b iff e = iff.0 e
 
 pub is_free_of : (result : Bool) (queue : List Bool) (b : ℕ) → (IsTrue result ↔ IsTaken queue b) → b < length queue → result ≡ false → slice_get queue b ≡ Some true
-is_free_of result queue b iff within e = let found = slice_get_inside queue b within in by_bool found.0 found.1 where
-  true_false : (r : Bool) → r ≡ true → r ≡ false → ⊥
-  true_false r f g = cc
-
-  by_bool : (x : Bool) → slice_get queue b ≡ Some x → slice_get queue b ≡ Some true
-  by_bool true at = at
-  by_bool false at = absurd (true_false result (iff.1 at) e)
+is_free_of result queue b iff within e = grind (arith, common_steps, slice_get_inside queue b within)
 
 -- what is taken out of the queue is its lowest
 pub taken_lowest : (queue new : List Bool) (block : ℕ) (result : Option ℕ) → IsLowestFree queue block → IfSome result (IsLowestFree queue) → IfSome result (λ slot. new ≡ slice_set queue slot false)

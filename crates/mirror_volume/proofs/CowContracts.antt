@@ -1,8 +1,9 @@
 -- What the calls on a copy-on-write volume are as calls on a volume with images.
-use Rattle.std.proofs.Common.{◌≡◌, ℕ, zero, suc, ◌<◌, ◌≤◌, List, [], ◌∷◌, length, refl, ap, sym, ◌∙◌, arith, Bool, true, Some, inl, inr, subst}
+use Rattle.std.proofs.Common.{◌≡◌, ℕ, zero, suc, ◌<◌, ◌≤◌, List, [], ◌∷◌, length, refl, ap, sym, ◌∙◌, arith, Bool, true, Some, inr}
 use Rattle.std.specs.Prelude.{slice_get, ◌&&◌, map, Result, Ok, Err, OnOk, IfErr}
 use Rattle.std.specs.List.{list_all}
 use Rattle.std.proofs.lemmas.Option.{same_Some}
+use Rattle.std.proofs.lemmas.Grind.{common_steps}
 use Rattle.vss_names.specs.Faults.{Rose}
 use Rattle.volume_device.specs.declared.device.Device.{Ghosts}
 use Rattle.write_history.specs.History.{History, Write}
@@ -39,10 +40,7 @@ one_rose : {D : Type 0} → (count : D → ℕ) (old new : List D) (v : ℕ) (d 
     → AnyRose (map count old) (map count new)
 one_rose count [] new v d e at also rose = cc
 one_rose count (x ∷ old) [] v d e at also rose = cc
-one_rose count (x ∷ old) (y ∷ new) zero d e at also rose =
-    let first : x ≡ d = same_Some x d at in
-    let second : y ≡ e = same_Some y e also in
-    inl (subst (λ z. Rose (count z) (count y)) (sym first) (subst (λ z. Rose (count d) (count z)) (sym second) rose))
+one_rose count (x ∷ old) (y ∷ new) zero d e at also rose = grind (arith, common_steps, same_Some)
 one_rose count (x ∷ old) (y ∷ new) (suc v) d e at also rose = inr (one_rose count old new v d e at also rose)
 
 -- one volume is the whole list

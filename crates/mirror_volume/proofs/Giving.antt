@@ -1,8 +1,9 @@
 -- Which commands may be given as others were: what is left of a list.
 use Rattle.std.proofs.Common.{◌≡◌, ℕ, ◌+◌, ◌<◌, ◌≤◌, List, [], ◌∷◌, length, ap, sym, arith, Bool, true, false, subst}
-use Rattle.std.specs.Prelude.{All, filter, nat_lt, not, ◌==◌, if◌then◌else◌}
+use Rattle.std.specs.Prelude.{All, filter, if◌then◌else◌}
 use Rattle.std.proofs.lemmas.List.{map-append, length-append, length-map}
 use Rattle.std.proofs.lemmas.List.Elements.{All-head, All-tail, All-push, All-cons}
+use Rattle.std.proofs.lemmas.Grind.{common_steps}
 use Rattle.write_history.specs.History.{History, Image as Shown, sets_of}
 use Rattle.mirror_volume.specs.declared.command.Command.{Command}
 use Rattle.mirror_volume.specs.declared.command.Command.TheVariants.{Write, Cut, Drop}
@@ -32,13 +33,10 @@ fewer_itself : (images : List Shown) → AreFewer images images
 fewer_itself images = record { all = λ n are. are; long = omega arith }
 
 write_fewer : (b x : ℕ) (said : Said) (h : History) → AreFewer (after_write b x said h).images h.images
-write_fewer b x (Wrote m) h = fewer_filter (λ i. nat_lt m i.set) h.images
-write_fewer b x (Fault m) h = fewer_filter (λ i. nat_lt m i.set) h.images
-write_fewer b x _ h = fewer_itself h.images
+write_fewer b x said h = grind (arith, common_steps, fewer_filter, fewer_itself)
 
 drop_fewer : (set : ℕ) (said : Said) (h : History) → AreFewer (after_drop set said h).images h.images
-drop_fewer set Ok h = fewer_filter (λ i. not (i.set == set)) h.images
-drop_fewer set _ h = fewer_itself h.images
+drop_fewer set said h = grind (arith, common_steps, fewer_filter, fewer_itself)
 
 -- after a command that adds no image the rest may be given
 with_fewer : (n newest room : ℕ) (rest : List Command) (now before : List Shown) → AreFewer now before → All (λ s. s ≤ newest) (sets_of before) → length (sets_of before) + room ≤ 512

@@ -1,5 +1,5 @@
 -- What a volume with images has said to the first commands of a list.
-use Rattle.std.proofs.Common.{◌≡◌, ℕ, zero, suc, ◌+◌, ◌<◌, List, [], ◌∷◌, ◌++◌, length, take, drop, refl, ap, sym, ◌∙◌, arith, Bool, Option, Some, subst, get_or}
+use Rattle.std.proofs.Common.{◌≡◌, ℕ, zero, suc, ◌+◌, List, [], ◌∷◌, ◌++◌, length, take, drop, refl, ap, sym, ◌∙◌, arith, Bool, Option, Some, subst}
 use Rattle.std.specs.Prelude.{slice_get}
 use Rattle.std.proofs.lemmas.List.{length-append}
 use Rattle.write_history.specs.History.{History, sets_of}
@@ -8,14 +8,7 @@ use Rattle.mirror_volume.specs.declared.said.Said.{Said}
 use Rattle.mirror_volume.specs.Replies.{Kind, kind_of, MayBeGiven, after, after_all, IsRun, IsStep}
 use Rattle.mirror_volume.proofs.Runs.{after_all-more, run-more}
 use Rattle.mirror_volume.proofs.Giving.{given_rest}
-
-take_suc : {X : Type 0} → (xs : List X) (k : ℕ) (x : X) → slice_get xs k ≡ Some x → take (suc k) xs ≡ take k xs ++ x ∷ []
-take_suc [] k x at = cc
-take_suc (y ∷ xs) zero x at = let same : y ≡ x = cc in ap (λ z. z ∷ []) same
-take_suc (y ∷ xs) (suc k) x at = ap (λ ys. y ∷ ys) (take_suc xs k x at)
-
-take_one : {X : Type 0} → (xs : List X) (k : ℕ) (x : X) → slice_get xs k ≡ Some x → take (k + 1) xs ≡ take k xs ++ x ∷ []
-take_one xs k x at = let next : k + 1 ≡ suc k = omega arith in ap (λ (n : ℕ). take n xs) next ∙ take_suc xs k x at
+use Rattle.cow_volume.proofs.Reverting.{take_next}
 
 drop_suc : {X : Type 0} → (xs : List X) (k : ℕ) (x : X) → slice_get xs k ≡ Some x → drop k xs ≡ x ∷ drop (suc k) xs
 drop_suc [] k x at = cc
@@ -55,7 +48,7 @@ module _ {V : Type 0} (stands : V → History → Type 0) (tells : V → Bool) (
       → ((h : History) → stands now h → stands next (after h c s)) → tells next ≡ tells now → size next ≡ size now → slots next ≡ slots now
       → HaveSaid stands tells size slots ready count sets per first next commands (k + 1) (said ++ s ∷ [])
   one_said first now next commands k said c s h0 stood are have at step after_is tell sized slotted =
-      let more = take_one commands k c at in
+      let more = take_next commands k c at in
       let long : length said ≡ length (take k commands) = have.long ∙ sym (long_take commands k c at) in
       record {
         long = length-append said (s ∷ []) ∙ ap (λ (n : ℕ). n + 1) have.long;
@@ -78,9 +71,3 @@ module _ {V : Type 0} (stands : V → History → Type 0) (tells : V → Bool) (
             (subst (λ (ss : List ℕ). MayBeGiven (size first) ss (c ∷ drop (k + 1) commands)) (are now history before)
             (subst (λ (cs : List Command). MayBeGiven (size first) (sets now) cs) (drop_one commands k c at) have.allowed)));
       }
-
--- the element at a place
-pub get_at : {X : Type 0} → (xs : List X) (k : ℕ) (d : X) → k < length xs → slice_get xs k ≡ Some (get_or xs k d)
-get_at [] k d l = absurd (omega arith)
-get_at (x ∷ xs) zero d l = refl
-get_at (x ∷ xs) (suc k) d l = get_at xs k d (omega arith)

@@ -4,6 +4,7 @@ use Rattle.std.specs.Prelude.{◌⊎◌, slice_get, slice_set, ◌==◌, ◌&&�
 use Rattle.std.specs.List.{list_all}
 use Rattle.std.proofs.lemmas.Bool.Decides.{nat_tests}
 use Rattle.std.proofs.lemmas.Option.{same_Some}
+use Rattle.std.proofs.lemmas.Grind.{common_steps}
 use Rattle.vss_names.specs.Faults.{counted, all_counted, Rose}
 use Rattle.volume_device.specs.declared.device.Device.{Ghosts}
 use Rattle.cow_volume.proofs.Group.{same_number}
@@ -144,36 +145,14 @@ ready_followed {D = D} ghosts b bytes (m ∷ old) (n ∷ new) are = by_one (is_r
 pub ready_set : {D : Type 0} → (mirrors : List (Mirror D)) (k : ℕ) (m next : Mirror D) → slice_get mirrors k ≡ Some m → (is_ready m ≡ true → is_ready next ≡ true)
     → count_by is_ready mirrors ≤ count_by is_ready (slice_set mirrors k next)
 ready_set [] k m next at more = omega arith
-ready_set {D = D} (x ∷ mirrors) zero m next at more =
-    let a = count-cons is_ready x mirrors in
-    let b = count-cons is_ready next mirrors in
-    let l = count_two (is_ready x) (is_ready next) (count_by is_ready mirrors) (count_by is_ready mirrors)
-    (subst (λ (y : Mirror D). is_ready y ≡ true → is_ready next ≡ true) (sym (same_Some x m at)) more) (same_le (count_by is_ready mirrors)) in
-    omega arith
-ready_set (x ∷ mirrors) (suc k) m next at more =
-    let a = count-cons is_ready x mirrors in
-    let b = count-cons is_ready x (slice_set mirrors k next) in
-    let rest = ready_set mirrors k m next at more in
-    omega arith
+ready_set {D = D} (x ∷ mirrors) zero m next at more = grind (arith, common_steps, count-cons, count_two, same_Some, same_le)
+ready_set (x ∷ mirrors) (suc k) m next at more = grind (arith, common_steps, count-cons, ready_set mirrors k m next)
 
 -- one that was ready is split off
 pub ready_split : {D : Type 0} → (mirrors : List (Mirror D)) (k : ℕ) (m next : Mirror D) → slice_get mirrors k ≡ Some m → count_by is_ready mirrors ≤ count_by is_ready (slice_set mirrors k next) + 1
 ready_split [] k m next at = omega arith
-ready_split (x ∷ mirrors) zero m next at =
-    let a = count-cons is_ready x mirrors in
-    let b = count-cons is_ready next mirrors in
-    let l = one_less (is_ready x) (is_ready next) (count_by is_ready mirrors) in
-    omega arith where
-      one_less : (s t : Bool) (n : ℕ) → (if s then 1 else 0) + n ≤ (if t then 1 else 0) + n + 1
-      one_less true true n = omega arith
-      one_less true false n = omega arith
-      one_less false true n = omega arith
-      one_less false false n = omega arith
-ready_split (x ∷ mirrors) (suc k) m next at =
-    let a = count-cons is_ready x mirrors in
-    let b = count-cons is_ready x (slice_set mirrors k next) in
-    let rest = ready_split mirrors k m next at in
-    omega arith
+ready_split (x ∷ mirrors) zero m next at = grind (arith, common_steps, count-cons)
+ready_split (x ∷ mirrors) (suc k) m next at = grind (arith, common_steps, count-cons, ready_split mirrors k m next)
 
 one_counts : (t : Bool) (m n : ℕ) → t ≡ true → m ≡ (if t then 1 else 0) + n → 0 < m
 one_counts t m n e is = grind arith
@@ -184,12 +163,8 @@ none_counts t m n e is none = grind arith
 -- some are ready where one is, and none where none is
 pub ready_some : {D : Type 0} → (mirrors : List (Mirror D)) (k : ℕ) (m : Mirror D) → slice_get mirrors k ≡ Some m → is_ready m ≡ true → 0 < count_by is_ready mirrors
 ready_some [] k m at ready = cc
-ready_some (x ∷ mirrors) zero m at ready =
-    one_counts (is_ready x) (count_by is_ready (x ∷ mirrors)) (count_by is_ready mirrors) (ap is_ready (same_Some x m at) ∙ ready) (count-cons is_ready x mirrors)
-ready_some (x ∷ mirrors) (suc k) m at ready =
-    let a = count-cons is_ready x mirrors in
-    let rest = ready_some mirrors k m at ready in
-    omega arith
+ready_some (x ∷ mirrors) zero m at ready = grind (arith, common_steps, one_counts, same_Some, count-cons)
+ready_some (x ∷ mirrors) (suc k) m at ready = grind (arith, common_steps, count-cons, ready_some mirrors k m)
 
 pub ready_none : {D : Type 0} → (mirrors : List (Mirror D)) → ((k : ℕ) (m : Mirror D) → slice_get mirrors k ≡ Some m → is_ready m ≡ false) → count_by is_ready mirrors ≡ 0
 ready_none [] none = refl

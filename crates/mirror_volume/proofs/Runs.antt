@@ -1,12 +1,14 @@
 -- Runs of commands: one command more, the definition's replies, and why a cut is refused.
-use Rattle.std.proofs.Common.{◌≡◌, ℕ, ◌+◌, ◌≤◌, List, [], ◌∷◌, ◌++◌, length, refl, ap, ◌∙◌, arith, Bool, true, subst, inl, inr}
-use Rattle.std.specs.Prelude.{◌⊎◌, ◌&&◌}
+use Rattle.std.proofs.Common.{◌≡◌, ℕ, ◌+◌, ◌≤◌, List, [], ◌∷◌, ◌++◌, length, refl, ap, ◌∙◌, arith, Bool, true, inl}
+use Rattle.std.specs.Prelude.{◌⊎◌}
+use Rattle.std.proofs.lemmas.Grind.{common_steps}
 use Rattle.vss_names.specs.Faults.{Rose}
 use Rattle.write_history.specs.History.{History}
 use Rattle.mirror_volume.specs.declared.command.Command.{Command}
 use Rattle.mirror_volume.specs.declared.said.Said.{Said}
-use Rattle.mirror_volume.specs.Replies.{Kind, after, after_all, IsReply, used_up, IsStep, IsRun, reply_of}
+use Rattle.mirror_volume.specs.Replies.{Kind, after, after_all, IsReply, IsStep, IsRun, reply_of}
 use Rattle.mirror_volume.specs.Replies.{replies_of, is_plain, are_plain, used_by_all, AreUsedUp, IsRefused}
+use Rattle.cow_volume.proofs.Merging.{and_left, and_right}
 
 -- ## one command more
 
@@ -20,10 +22,7 @@ after_all-more h (d ∷ commands) (t ∷ said) c s long = after_all-more (after 
 pub run-more : (kind : Kind) (tells : Bool) (h : History) (ready count mid_ready mid_count now_ready now_count : ℕ) (commands : List Command) (said : List Said) (c : Command) (s : Said)
     → IsRun kind tells h ready count commands said mid_ready mid_count → IsStep kind tells (after_all h commands said) c s mid_ready mid_count now_ready now_count
     → IsRun kind tells h ready count (commands ++ c ∷ []) (said ++ s ∷ []) now_ready now_count
-run-more kind tells h ready count mid_ready mid_count now_ready now_count [] [] c s run step =
-    let from : IsStep kind tells h c s ready count now_ready now_count = subst (λ (r : ℕ). IsStep kind tells h c s r count now_ready now_count) run.0
-    (subst (λ (k : ℕ). IsStep kind tells h c s mid_ready k now_ready now_count) run.1 step) in
-    (now_ready, now_count, from, (refl, refl))
+run-more kind tells h ready count mid_ready mid_count now_ready now_count [] [] c s run step = grind (arith, common_steps)
 run-more kind tells h ready count mid_ready mid_count now_ready now_count [] (t ∷ said) c s run step = absurd run
 run-more kind tells h ready count mid_ready mid_count now_ready now_count (d ∷ commands) [] c s run step = absurd run
 run-more kind tells h ready count mid_ready mid_count now_ready now_count (d ∷ commands) (t ∷ said) c s run step =
@@ -34,12 +33,6 @@ run-more kind tells h ready count mid_ready mid_count now_ready now_count (d ∷
 reply_plain : (kind : Kind) (h : History) (ready : ℕ) (rose : Type 0) (c : Command) (s : Said) → IsReply kind true h ready rose c s → is_plain s ≡ true → s ≡ reply_of h c
 reply_plain kind h ready rose c s is plain = grind arith
 
-and_first : (s t : Bool) → (s && t) ≡ true → s ≡ true
-and_first s t e = grind arith
-
-and_second : (s t : Bool) → (s && t) ≡ true → t ≡ true
-and_second s t e = grind arith
-
 -- where no device failed, no image was evicted and no cut refused, each reply is the definition's
 pub plain_replies : (kind : Kind) (h : History) (ready count now_ready now_count : ℕ) (commands : List Command) (said : List Said) → IsRun kind true h ready count commands said now_ready now_count
     → are_plain said ≡ true → said ≡ replies_of h commands
@@ -47,8 +40,8 @@ plain_replies kind h ready count now_ready now_count [] [] run plain = refl
 plain_replies kind h ready count now_ready now_count [] (s ∷ said) run plain = absurd run
 plain_replies kind h ready count now_ready now_count (c ∷ commands) [] run plain = absurd run
 plain_replies kind h ready count now_ready now_count (c ∷ commands) (s ∷ said) run plain =
-    let same = reply_plain kind h ready (Rose count run.1) c s run.2.reply (and_first (is_plain s) (are_plain said) plain) in
-    let rest = plain_replies kind (after h c s) run.0 run.1 now_ready now_count commands said run.3 (and_second (is_plain s) (are_plain said) plain) in
+    let same = reply_plain kind h ready (Rose count run.1) c s run.2.reply (and_left (is_plain s) (are_plain said) plain) in
+    let rest = plain_replies kind (after h c s) run.0 run.1 now_ready now_count commands said run.3 (and_right (is_plain s) (are_plain said) plain) in
     ap (λ t. t ∷ said) same ∙ ap (λ ts. reply_of h c ∷ ts) (rest ∙ ap (λ (t : Said). replies_of (after h c t) commands) same)
 
 -- ## cuts that are used up
@@ -72,15 +65,7 @@ spent kind tells h ready count now_ready now_count [] [] run = inl (let same = r
 spent kind tells h ready count now_ready now_count [] (s ∷ said) run = absurd run
 spent kind tells h ready count now_ready now_count (c ∷ commands) [] run = absurd run
 spent kind tells h ready count now_ready now_count (c ∷ commands) (s ∷ said) run =
-    by_both run.2.ready_is (spent kind tells (after h c s) run.0 run.1 now_ready now_count commands said run.3) where
-      by_both : (ready ≤ run.0 + used_up kind.per_cut c s) ⊎ Rose count run.1 → (run.0 ≤ now_ready + used_by_all kind.per_cut commands said) ⊎ Rose run.1 now_count
-          → (ready ≤ now_ready + (used_up kind.per_cut c s + used_by_all kind.per_cut commands said)) ⊎ Rose count now_count
-      by_both (inl first) (inl rest) = inl (omega arith)
-      by_both (inr first) rest = inr (later_rose count run.1 now_count run.2.later first (run_later kind tells (after h c s) run.0 run.1 now_ready now_count commands said run.3))
-      by_both (inl first) (inr rest) = inr (earlier_rose rest) where
-        earlier_rose : Rose run.1 now_count → Rose count now_count
-        earlier_rose (inl less) = inl (let low = run.2.later in omega arith)
-        earlier_rose (inr top) = inr top
+    grind (arith, common_steps, later_rose, run_later, spent kind tells (after h c s) run.0 run.1 now_ready now_count commands said run.3)
 
 -- ## a cut that is refused
 

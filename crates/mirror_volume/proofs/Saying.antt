@@ -1,25 +1,23 @@
 -- What a volume with images says to one command is what its call came to.
-use Rattle.std.proofs.Common.{◌≡◌, ℕ, ◌+◌, ◌<◌, ◌≤◌, List, [], ◌∷◌, refl, arith, Bool, true, false, Option, Some, None, inl}
-use Rattle.std.specs.Prelude.{◌⊎◌, ◌==◌, ◌||◌, if◌then◌else◌}
+use Rattle.std.proofs.Common.{◌≡◌, ℕ, ◌≤◌, List, [], ◌∷◌, refl, arith, Bool, true, false, Option, Some, None}
+use Rattle.std.specs.Prelude.{◌⊎◌}
+use Rattle.std.proofs.lemmas.Grind.{common_steps}
 use Rattle.vss_names.specs.Faults.{Rose}
 use Rattle.block_data.specs.Digest.{sha256}
 use Rattle.write_history.specs.History.{History, Image as Shown, content, point_in, sets_of}
 use Rattle.cow_volume.specs.Calls.{is_among}
 use Rattle.cow_volume.proofs.Merging.{point_of}
 use Rattle.mirror_volume.specs.declared.command.Command.{Command}
-use Rattle.mirror_volume.specs.declared.command.Command.TheVariants.{Cut, Image, Drop}
+use Rattle.mirror_volume.specs.declared.command.Command.TheVariants.{Image, Drop}
 use Rattle.mirror_volume.specs.declared.said.Said.{Said}
-use Rattle.mirror_volume.specs.declared.said.Said.TheVariants.{Ok as SaidOk, Bytes, NoSuchImage, NoMirror, Fault}
+use Rattle.mirror_volume.specs.declared.said.Said.TheVariants.{Ok as SaidOk, Bytes, NoSuchImage, Fault}
 use Rattle.mirror_volume.specs.Contract.{IsSame, IsNoLessReady}
 use Rattle.mirror_volume.specs.Replies.{Kind, kind_of, IsReply, IsReadReply, IsImageReply, IsStep}
 
 -- no image of a set that is not among them
 none_point : (set : ℕ) (images : List Shown) → is_among set (sets_of images) ≡ false → point_in set images ≡ None
 none_point set [] none = refl
-none_point set (i ∷ images) none = by_test (i.set == set) (none_point set images) none where
-  by_test : (t : Bool) → (is_among set (sets_of images) ≡ false → point_in set images ≡ None) → (t || is_among set (sets_of images)) ≡ false → (if t then Some i.point else point_in set images) ≡ None
-  by_test true rest none = cc
-  by_test false rest none = rest none
+none_point set (i ∷ images) none = grind (arith, common_steps, none_point set images)
 
 pub step_of : (kind : Kind) (tells : Bool) (h : History) (c : Command) (said : Said) (ready count now_ready now_count : ℕ) → IsReply kind tells h ready (Rose count now_count) c said
     → count ≤ now_count → (ready ≤ now_ready) ⊎ Rose count now_count
@@ -54,11 +52,3 @@ module _ {V : Type 0} (stands : V → History → Type 0) (tells : V → Bool) (
   pub no_drop_step : (set : ℕ) → sets old ≡ sets_of h.images → is_among set (sets old) ≡ false → IsSame tells size slots count old new → IsNoLessReady ready count old new
       → IsStep (kind_of size slots per old) (tells old) h (Drop set) NoSuchImage (ready old) (count old) (ready new) (count new)
   no_drop_step set are none same still = grind (arith, step_of, none_point)
-
-  pub cut_step : (set : ℕ) → 0 < ready old → ready old ≤ ready new + per → IsSame tells size slots count old new
-      → IsStep (kind_of size slots per old) (tells old) h (Cut set) SaidOk (ready old) (count old) (ready new) (count new)
-  cut_step set some used same = record { reply = some; later = same.later; ready_is = inl used }
-
-  pub no_cut_step : (set : ℕ) → ready old ≡ 0 → IsSame tells size slots count old new
-      → IsStep (kind_of size slots per old) (tells old) h (Cut set) NoMirror (ready old) (count old) (ready new) (count new)
-  no_cut_step set none same = record { reply = none; later = same.later; ready_is = inl (omega arith) }

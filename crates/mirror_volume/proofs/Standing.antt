@@ -1,10 +1,11 @@
 -- What the calls on a volume with mirrors leave of the history that it stands for.
 use Rattle.std.proofs.Common.{◌≡◌, ◌≢◌, ℕ, zero, suc, ◌+◌, ◌<◌, List, [], ◌∷◌, ◌++◌, length, replicate, refl, ap, sym, ◌∙◌, arith, Bool, true, false, Option, Some, None, subst, inl, inr}
-use Rattle.std.specs.Prelude.{◌⊎◌, slice_get, slice_set, ◌==◌, not, filter, if◌then◌else◌, IfSome, is_some, is_none, map, option_map, All, ◌||◌, Result, Ok, Err}
+use Rattle.std.specs.Prelude.{◌⊎◌, slice_get, slice_set, ◌==◌, not, filter, if◌then◌else◌, IfSome, is_some, is_none, map, option_map, All, Result, Ok, Err}
 use Rattle.std.specs.List.{range_with_len}
 use Rattle.std.proofs.lemmas.List.Elements.{All-head, All-tail}
 use Rattle.std.proofs.lemmas.Option.{same_Some, slice_get_within}
 use Rattle.std.proofs.lemmas.List.{length_push, map-append}
+use Rattle.std.proofs.lemmas.Grind.{common_steps}
 use Rattle.block_data.specs.Runs.{zeros}
 use Rattle.volume_device.specs.Blocks.{AreBlocks}
 use Rattle.volume_device.specs.declared.device.Device.{Ghosts}
@@ -49,10 +50,7 @@ put_told p q b bytes now put tells = let was = put_was p b bytes now (sym put �
 -- ## a write
 
 no_bool : (b : ℕ) (stale : List Bool) → slice_get (slice_set stale b true) b ≡ Some false → b < length stale → ⊥
-no_bool b stale at within =
-    let found = slice_get_inside stale b within in
-    let now = slice_get-set_same stale b found.0 true found.1 in
-    cc
+no_bool b stale at within = let found = slice_get_inside stale b within in grind (arith, common_steps, slice_get-set_same stale b found.0 true found.1)
 
 -- a block that is not stale though b was marked is another
 pub other_block : (b c : ℕ) (stale : List Bool) → b < length stale → IsInStep (slice_set stale b true) c → b ≢ c
@@ -73,17 +71,8 @@ split_more known now n set h w was at = grind (arith, length_push, content-befor
 marked : (p q d : Option (List (List ℕ))) (n : ℕ) (holds : Option ℕ) (stale : List Bool) (h : History) (w : Write)
     → q ≡ option_map (λ blocks. slice_set blocks w.block w.bytes) p → w.block < length stale
     → IsMirror (told_in p d) n holds stale h → IsMirror (told_in q d) n holds (slice_set stale w.block true) (written w h)
-marked p q d n holds stale h w put within mirror = record {
-  in_step = λ blocks c tells step.
-      let other = other_block w.block c stale within step in
-      mirror.in_step blocks c (known blocks tells) (sym (slice_get-set_other stale w.block c true other) ∙ step) ∙ ap Some (sym (content_other h.writes w c other));
-  split = λ set holding. split_more (told_in p d) (told_in q d) n set h w known (mirror.split set holding);
-} where
-  known : (blocks : List (List ℕ)) → told_in q d ≡ Some blocks → told_in p d ≡ Some blocks
-  known blocks tells =
-      let both = both_tell q d blocks tells in
-      let was = put_told p q w.block w.bytes both.0 put both.1 in
-      tell_both p d was.0 blocks was.1 both.2
+marked p q d n holds stale h w put within mirror =
+    grind (arith, common_steps, other_block w.block, slice_get-set_other stale w.block, content_other h.writes w, split_more (told_in p d) (told_in q d) n)
 
 -- a mirror that got the block
 mirrored : (p q d e : Option (List (List ℕ))) (n : ℕ) (stale : List Bool) (h : History) (w : Write)
@@ -158,7 +147,6 @@ written_stands {D = D} ghosts old new w h are is stood = record {
   mirror_at : (k : ℕ) (m : Mirror D) → slice_get new.mirrors k ≡ Some m → IsMirror (told_in (ghosts.told new.primary) (ghosts.told m.device)) (ghosts.size new.primary) m.holds m.stale (written w h)
   mirror_at k m at =
       let within = slice_get_within new.mirrors k m at in
-      let long = is.mirrors.long in
       let was = slice_get_inside old.mirrors k (omega arith) in
       subst (λ (n : ℕ). IsMirror (told_in (ghosts.told new.primary) (ghosts.told m.device)) n m.holds m.stale (written w h)) (sym is.size_is)
       (followed ghosts (ghosts.told old.primary) (ghosts.told new.primary) (ghosts.size old.primary) was.0 m h w is.told_is is.in_range (are.sizes k was.0 was.1) (are.stale k was.0 was.1)
@@ -169,31 +157,17 @@ written_stands {D = D} ghosts old new w h are is stood = record {
 -- a set that stands among more images has the point that it had
 point_more : (s p : ℕ) (images more : List Image) → point_in s images ≡ Some p → point_in s (images ++ more) ≡ Some p
 point_more s p [] more at = cc
-point_more s p (i ∷ images) more at = by_test (i.set == s) (point_more s p images more) at where
-  by_test : (t : Bool) → (point_in s images ≡ Some p → point_in s (images ++ more) ≡ Some p) → (if t then Some i.point else point_in s images) ≡ Some p
-      → (if t then Some i.point else point_in s (images ++ more)) ≡ Some p
-  by_test true rest at = at
-  by_test false rest at = rest at
+point_more s p (i ∷ images) more at = grind (arith, common_steps, point_more s p images more)
 
 -- a set that did not stand has the point of its image at the end
 point_new : (s p : ℕ) (images : List Image) → is_among s (sets_of images) ≡ false → point_in s (images ++ record { set = s; point = p } ∷ []) ≡ Some p
 point_new s p [] none = ap (λ (t : Bool). if t then Some p else None) (number_is s)
-point_new s p (i ∷ images) none = by_test (i.set == s) (point_new s p images) none where
-  by_test : (t : Bool) → (is_among s (sets_of images) ≡ false → point_in s (images ++ record { set = s; point = p } ∷ []) ≡ Some p) → (t || is_among s (sets_of images)) ≡ false
-      → (if t then Some i.point else point_in s (images ++ record { set = s; point = p } ∷ [])) ≡ Some p
-  by_test true rest none = cc
-  by_test false rest none = rest none
+point_new s p (i ∷ images) none = grind (arith, common_steps, point_new s p images)
 
 -- the images but those of another set
 point_without : (s set p : ℕ) (images : List Image) → s ≢ set → point_in s images ≡ Some p → point_in s (without_set set images) ≡ Some p
 point_without s set p [] other at = cc
-point_without s set p (i ∷ images) other at = by_tests (i.set == set) (i.set == s) refl refl (point_without s set p images other) at where
-  by_tests : (t u : Bool) → (i.set == set) ≡ t → (i.set == s) ≡ u → (point_in s images ≡ Some p → point_in s (without_set set images) ≡ Some p)
-      → (if u then Some i.point else point_in s images) ≡ Some p → point_in s (if not t then i ∷ without_set set images else without_set set images) ≡ Some p
-  by_tests true true is also rest at = absurd (other (sym (same_number i.set s also) ∙ same_number i.set set is))
-  by_tests true false is also rest at = rest at
-  by_tests false true is also rest at = ap (λ (t : Bool). if t then Some i.point else point_in s (without_set set images)) also ∙ at
-  by_tests false false is also rest at = ap (λ (t : Bool). if t then Some i.point else point_in s (without_set set images)) also ∙ rest at
+point_without s set p (i ∷ images) other at = grind (arith, common_steps, same_number, point_without s set p images other)
 
 -- one mirror changes, and the history as f says; the primary tells what it told
 one_changed : {D : Type 0} → (ghosts : Ghosts D) (old new : MirrorValue D) (h g : History) (k : ℕ) (m next : Mirror D)
@@ -437,9 +411,7 @@ pub shown_bytes : (p d : Option (List (List ℕ))) (n b set point : ℕ) (bytes 
 shown_bytes None d n b set point bytes holds stale h mirror held at read low tells own = cc
 shown_bytes (Some ps) None n b set point bytes holds stale h mirror held at read low tells own = cc
 shown_bytes (Some ps) (Some blocks) n b set point bytes holds stale h mirror held at read low tells own =
-    let split = mirror.split set held in
-    let same = same_Some split.point point (sym split.stands ∙ at) in
-    same_Some bytes (content h.writes point b) (sym read ∙ split.shows blocks b refl low ∙ ap (λ (k : ℕ). Some (content h.writes k b)) same)
+    let split = mirror.split set held in let same = same_Some split.point point (sym split.stands ∙ at) in grind (arith, common_steps, same_Some)
 
 -- a block that is not stale is the primary's
 pub equals_primary : {D : Type 0} → (ghosts : Ghosts D) (v : MirrorValue D) (k : ℕ) (h : History) → AreMirrors ghosts.size (ghosts.size v.primary) v.mirrors → StandsFor ghosts v h

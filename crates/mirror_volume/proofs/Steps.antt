@@ -3,6 +3,7 @@ use Rattle.std.proofs.Common.{◌≡◌, ℕ, zero, suc, ◌+◌, List, [], ◌�
 use Rattle.std.specs.Prelude.{slice_get, slice_set, sum, map, length, ◌==◌, if◌then◌else◌, Result, Ok, Err}
 use Rattle.std.proofs.lemmas.Option.{same_Some}
 use Rattle.std.proofs.lemmas.List.Sums.{sum_by-cons}
+use Rattle.std.proofs.lemmas.Grind.{common_steps}
 use Rattle.volume_device.specs.declared.device.Device.{Ghosts}
 use Rattle.cow_volume.proofs.Group.{slice_get-set_same, slice_get-set_other, same_number, other_number}
 use Rattle.cow_volume.specs.declared.image_fault.ImageFault.TheVariants.{NoSuchImage, NoSuchBlock, Volume as VolumeFailed, Area as AreaFailed}
@@ -84,11 +85,7 @@ module _ {D : Type 0} (ghosts : Ghosts D) (k : ℕ) where
 
   calls_fewer : (old new : MirrorValue D) (calls : List Call) → AreCalls ghosts old calls new → stale_at new k + sum (map (copied_on k) calls) ≡ stale_at old k
   calls_fewer old new [] are = let same = ap (λ (v : MirrorValue D). stale_at v k) are in omega arith
-  calls_fewer old new (call ∷ calls) are =
-      let first = call_fewer old are.0 call are.1 in
-      let rest = calls_fewer are.0 new calls are.2 in
-      let all = sum_by-cons (λ (n : ℕ). n) (copied_on k call) (map (copied_on k) calls) in
-      omega arith
+  calls_fewer old new (call ∷ calls) are = grind (arith, common_steps, call_fewer, sum_by-cons, calls_fewer are.0 new calls are.2)
 
   -- after as many copied blocks as were stale, none is
   pub calls_in_step : (old new : MirrorValue D) (calls : List Call) → AreCalls ghosts old calls new → sum (map (copied_on k) calls) ≡ stale_at old k → stale_at new k ≡ 0

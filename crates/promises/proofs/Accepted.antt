@@ -1,21 +1,19 @@
 -- An ordered call is accepted just where it may come.
-use Rattle.promises.proofs.Words.{bytes_eq, Context, Backup, AppRollback, NasRollback, AsyncPending, BadState, SnapshotSetInProgress, ObjectAlreadyExists, MaximumNumberOfVolumesReached}
-use Rattle.promises.proofs.Words.{MaximumNumberOfSnapshotsReached, Mark, Part, Meta, full_name, Pair, has_pair, found_from}
-use Rattle.promises.proofs.Words.{naming_if, naming_found, naming_of, Mode, SessionCall, Stage, Opened, Gathered, Started, Prepared, Verdict, Session, has_writers, makes_set}
-use Rattle.promises.proofs.Words.{mode_of, context_of, without_all, check, check_other, check_owner, owner_only, verdict_of, allows, stage_code, is_stage}
-use Rattle.promises.proofs.Words.{goes_beside_agenda, is_start, is_await, Op, Plan, token, Event, Line, Reply, Fine, Coded, StatusOf, State, SetRow, in_progress, history_of, runs, Replied}
-use Rattle.promises.proofs.Words.{known_metas, named_as, component_in, add_to, add, has_no_volume, judged, line_in, session_line, Act, happens, reply, state, IsOfSession}
-use Rattle.promises.proofs.Words.{owns, is_fine, orderly, is_ordered, is_accepted, can_name_in, can_name, has_place, has_volume, has_its_wants, IsAccepting, is_context, AcceptsInOrder, Step, ByBegin}
-use Rattle.promises.proofs.Words.{ByGather, ByStart, ByPrepare, BySnapshot, Progress, progress, step_code, is_step, asks_writers, comes_now}
 use Rattle.std.proofs.Common.{◌≡◌, ◌∙◌, ℕ, ◌+◌, ◌==◌, List, [], ◌∷◌, Option, Some, None, refl, Bool, true, false, ap, sym, subst, length, arith}
 use Rattle.std.specs.Prelude.{◌&&◌, ◌||◌, not, nat_le, nat_lt, nat_eq, is_some, is_none, option_and_then, slice_get, if◌then◌else◌}
-use Rattle.vss_names.specs.Context.{number_of, context_of_number}
+use Rattle.promises.proofs.Words.{bytes_eq, Context, Backup, AppRollback, NasRollback, AsyncPending, BadState, SnapshotSetInProgress, ObjectAlreadyExists}
+use Rattle.promises.proofs.Words.{MaximumNumberOfVolumesReached, MaximumNumberOfSnapshotsReached, Mark, Part, Meta, full_name, Pair, has_pair, found_from}
+use Rattle.promises.proofs.Words.{naming_if, naming_found, naming_of, Mode, SessionCall, Stage, Opened, Gathered, Started, Prepared, Verdict, Session}
+use Rattle.promises.proofs.Words.{has_writers, makes_set, mode_of, context_of, without_all, check, check_other, check_owner, owner_only, verdict_of, allows}
+use Rattle.promises.proofs.Words.{stage_code, is_stage, goes_beside_agenda, is_start, is_await, Op, Plan, token, Event, Line, Reply, Fine, Coded, StatusOf}
+use Rattle.promises.proofs.Words.{State, SetRow, in_progress, history_of, runs, Replied, known_metas, named_as, component_in, add_to, add, has_no_volume}
+use Rattle.promises.proofs.Words.{judged, line_in, session_line, Act, happens, reply_is, reply, state, IsOfSession, owns, is_fine, orderly, is_ordered}
+use Rattle.promises.proofs.Words.{is_accepted, can_name_in, can_name, has_place, has_volume, has_its_wants, IsAccepting, is_context, AcceptsInOrder, Step}
+use Rattle.promises.proofs.Words.{ByBegin, ByGather, ByStart, ByPrepare, BySnapshot, Progress, progress, step_code, is_step, asks_writers, comes_now, number_of}
+use Rattle.promises.proofs.Words.{context_of_number, called, and-true, true_not_false}
 use Rattle.requestor.specs.declared.session_call.SessionCall.TheVariants as call
 use Rattle.scenario.specs.declared.op.Op.TheVariants as op
-use Rattle.vss_model.specs.Lines.{called}
 use Rattle.promises.proofs.Progress.{stage_of, StandsAt, stands_all}
-use Rattle.set_agenda.proofs.WriterSets.{and-true}
-use Rattle.vss_model.proofs.Orderly.{true_not_false}
 
 -- ## the checks
 
@@ -279,7 +277,7 @@ module _ (s : Plan) (so_far : List Act) (lane : ℕ) where
 
 -- the reply of a line
 pub line_reply : (s : Plan) (st : State) (act : Act) (event : Event) → act.event ≡ event → reply s st act ≡ (happens s event act.mark st).0
-line_reply s st act event e = ap (λ x. (happens s x act.mark st).0) e
+line_reply s st act event e = reply_is s st act ∙ ap (λ x. (happens s x act.mark st).0) e
 
 pub accepts_in_order : (s : Plan) (so_far : List Act) (act : Act) → AcceptsInOrder s so_far act
 accepts_in_order s so_far act =

@@ -1,18 +1,15 @@
 -- All answers to an order are lost, and the agenda goes on: no limit is outrun in the group that opens then.
-use Rattle.promises.proofs.Words.{Lost, answer_limit, Group}
-use Rattle.promises.proofs.Words.{Kind, Place, others, others_if, asks_unfailed, unasked, unasked_if, advance, Agenda, Entry, Open, places, is_orders, same_place, waited_for}
-use Rattle.promises.proofs.Words.{with_group, left_from, groups_left, open_place, waits_now, is_among, at_place, last_time, opened_at, freeze_opened_at, first_hold, hold_runs, freeze_runs}
-use Rattle.promises.proofs.Words.{answer_runs, runs_if, hold_running, running_at, spent_of, groups_left-all_say}
 use Rattle.std.proofs.Common.{◌≡◌, ◌∙◌, ℕ, List, [], ◌∷◌, ◌++◌, None, refl, Bool, true, false, ap, sym, subst, inr, map, filter, arith}
 use Rattle.std.specs.Prelude.{◌&&◌, ◌||◌, ◌==◌, not, if◌then◌else◌}
-use Rattle.std.proofs.lemmas.Bool.{and_parts, or_right}
-use Rattle.set_agenda.specs.declared.limit.Limit.TheVariants.{Freeze as FreezeLimit, Answer as AnswerLimit}
+use Rattle.promises.proofs.Words.{Lost, answer_limit, Group, Kind, Place, others, others_if, asks_unfailed, unasked, unasked_if, advance, Agenda, Entry, Open}
+use Rattle.promises.proofs.Words.{places, is_orders, same_place, waited_for, with_group, left_from, groups_left, open_place, waits_now, is_among, at_place}
+use Rattle.promises.proofs.Words.{last_time, opened_at, freeze_opened_at, first_hold, hold_runs, freeze_runs, answer_runs, runs_if, hold_running, running_at}
+use Rattle.promises.proofs.Words.{spent_of, groups_left-all_say, and_parts, or_right, Answer as AnswerLimit, unless, true_not_false}
+use Rattle.set_agenda.specs.declared.limit.Limit.TheVariants.{Freeze as FreezeLimit}
 use Rattle.promises.proofs.Speaks.{Speaks}
 use Rattle.promises.proofs.NotSpent.{at_once, none_both, unspent_if, unspent_hold, is_mild}
 use Rattle.promises.proofs.OpenGroup.{speaks_some, last_new}
 use Rattle.promises.proofs.OneMore.{Ordered, InTime, more, ordered_more, mild_stays}
-use Rattle.set_agenda.proofs.Closings.{unless}
-use Rattle.vss_model.proofs.Orderly.{true_not_false}
 
 -- ## places apart
 

@@ -1,37 +1,35 @@
 -- The rule of snapshots: a fact of a running snapshot agenda that holds where it begins, and is kept by what is said, holds in every
 -- state, and beside it the deeds since the `snapshot` line are those of the log; and a set completes only where such an agenda,
 -- with what the last act tells, has no group left.
-use Rattle.promises.proofs.Words.{append_nothing, Order, SetOutcome, VssResult, BadState, InsufficientStorage, AsyncPending, AsyncCancelled, Said, is_ok, Mark}
-use Rattle.promises.proofs.Words.{Write, dropped, said_of, Group, Kind, Gather}
-use Rattle.promises.proofs.Words.{Prepare, Snapshot, Complete, Member, Agenda, Open, order_of, groups_left, left, open_group, next_volume, open_place, open_order, order_now, is_done, is_working}
-use Rattle.promises.proofs.Words.{all_say, spent_of, takers, Session, opened, Op, begins_agenda, Target, target_of, Plan, Event, Reply, Fine, Coded, Deleted, Idled, Stepped, State, SetRow, Kept}
-use Rattle.promises.proofs.Words.{start, is_complete, in_progress, row_of, row_changed, left_now, Act, enabled, order_of_writer, answer_reply, step_reply, idle_now, happens, reply, after, state}
-use Rattle.promises.proofs.Words.{is_pending, Settles, outcome_is_running, true_not_false, orderly, has_complete, running_incomplete, incomplete_map}
-use Rattle.promises.proofs.Words.{incomplete_append}
-use Rattle.promises.proofs.Words.{complete_found, Deed, Spoke, Made, deeds_lost, deeds_of, deeds_if, is_snapshot_line, way_after, way_from, way, Covers, covered, after_enabled, after_not_enabled}
-use Rattle.promises.proofs.Words.{not_complete}
 use Rattle.std.proofs.Common.{◌≡◌, ◌∙◌, ℕ, ◌+◌, ◌==◌, List, [], ◌∷◌, ◌++◌, ◌⊎◌, Option, Some, None, refl, Bool, true, false, ap, sym, subst, inl, inr, map, fold}
 use Rattle.std.specs.Prelude.{is_some, ◌&&◌, not, if◌then◌else◌, length}
 use Rattle.std.proofs.Common.{arith}
+use Rattle.promises.proofs.Words.{append_nothing, Order, SetOutcome, VssResult, BadState, InsufficientStorage, AsyncPending, AsyncCancelled, Said, is_ok, Mark}
+use Rattle.promises.proofs.Words.{Write, dropped, said_of, Group, Kind, Gather, Prepare, Snapshot, Complete, Member, Agenda, Open, order_of, groups_left, left}
+use Rattle.promises.proofs.Words.{open_group, next_volume, open_place, open_order, order_now, is_done, is_working, all_say, spent_of, takers, Session, opened}
+use Rattle.promises.proofs.Words.{Op, begins_agenda, Target, target_of, Plan, Event, Reply, Fine, Coded, Deleted, Idled, Stepped, State, SetRow, Kept, start}
+use Rattle.promises.proofs.Words.{is_complete, in_progress, row_of, row_changed, left_now, Act, enabled, order_of_writer, answer_reply, step_reply, idle_now}
+use Rattle.promises.proofs.Words.{happens, reply_is, reply, after, state, is_pending, Settles, outcome_is_running, true_not_false, orderly, has_complete}
+use Rattle.promises.proofs.Words.{running_incomplete, incomplete_map, incomplete_append, complete_found, Deed, Spoke, Made, deeds_lost, deeds_of, deeds_if}
+use Rattle.promises.proofs.Words.{is_snapshot_line, way_after, way_from, way, Covers, covered, after_enabled, after_not_enabled, not_complete, Course, posted}
+use Rattle.promises.proofs.Words.{settled, begun, gathered, prepared, snapshot_begun, completing, change_at, stepped as course_stepped, limits_now, fails_set}
+use Rattle.promises.proofs.Words.{released, Line, Provider, Idle, runs, followed, failed_in, failed, Replied, refused, cleared, with_room_if, put, write}
+use Rattle.promises.proofs.Words.{reverted_as, start_set, change_set, disable, closed, step_made, stepped_as, ticked, later, set_loses_image, new_set}
+use Rattle.promises.proofs.Words.{new_number, with_volume, has_no_volume, volumes_of, is_disabled, selected, is_flush, is_failed_step, line_ticks, lost_after}
+use Rattle.promises.proofs.Words.{lost_order, lost_order_if, unspoken, changed_number, changed_result, begun_incomplete}
 use Rattle.vss_names.specs.declared.set_outcome.SetOutcome.TheVariants.{Running as RunningSet}
 use Rattle.writer_calls.specs.declared.answer.Answer.{Answer}
-use Rattle.set_agenda.specs.Course.{Course, posted, failed as course_failed, settled, begun, gathered, prepared, snapshot_begun, completing, change_at}
-use Rattle.set_agenda.specs.Course.{stepped as course_stepped, limits_now, fails_set, released}
+use Rattle.set_agenda.specs.Course.{failed as course_failed}
 use Rattle.scenario.specs.declared.op.Op.TheVariants as op
-use Rattle.vss_model.specs.declared.event.Event.TheVariants.{Line, Answer as AnswerEvent, Provider, Idle}
-use Rattle.vss_model.specs.Ending.{followed, runs, failed_in, failed}
-use Rattle.vss_model.specs.Images.{Replied, refused, cleared, set_loses_image, with_room_if, put, write, reverted_as}
-use Rattle.vss_model.specs.Sessions.{new_set, new_number, with_volume, has_no_volume, volumes_of, start_set, change_set, disable, is_disabled, selected, closed}
-use Rattle.vss_model.specs.Steps.{answered, step_made, is_flush, is_failed_step, stepped_as, stepped, ticked, later}
-use Rattle.vss_model.specs.Effects.{line_ticks, lost, lost_after, lost_order, lost_order_if}
-use Rattle.vss_model.proofs.LogRule.{Running, unspoken}
-use Rattle.vss_model.proofs.OneCut.{changed_number, changed_result}
+use Rattle.vss_model.specs.declared.event.Event.TheVariants.{Answer as AnswerEvent}
+use Rattle.vss_model.proofs.StateForm.{answered, stepped}
+use Rattle.vss_model.specs.Effects.{lost}
+use Rattle.vss_model.proofs.LogRule.{Running}
 use Rattle.promises.proofs.BusyAgendas.{course_followed}
 use Rattle.promises.proofs.Clock.{clock-answered, clock-stepped_as, clock-ticked, write_ticks}
 use Rattle.promises.proofs.Incomplete.{done_followed, incomplete_closed, incomplete_failed, incomplete_made, incomplete_revert, incomplete_write}
 use Rattle.promises.proofs.Speaks.{deed_in, said_at, Speaks, Grows, made_now, lost_told, grows_answered, grows_stepped, grows_timed}
 use Rattle.promises.proofs.Stages.{deeds_append}
-use Rattle.vss_model.proofs.Completed.{begun_incomplete}
 
 pub record IsKeptAlong (G : Agenda → Type 0) : Type 0 where
   pub begins : (ms : List Member) (vs : List ℕ) (now : ℕ) → G (unspoken Snapshot ms vs now)
@@ -289,7 +287,7 @@ module _ (G : Agenda → Type 0) (k : IsKeptAlong G) where
     way_if b act = if b && is_snapshot_line act.event && is_pending (reply s st act) then [] else so_far ++ deeds_if b s st act
 
     next_is : (act : Act) → enabled s st act.event ≡ true → way_after s st so_far act ≡ next_way st so_far act.event (happens s act.event act.mark st)
-    next_is act e = grind (arith, after_enabled)
+    next_is act e = grind (arith, after_enabled, reply_is)
 
     next_not : (act : Act) → enabled s st act.event ≡ false → way_after s st so_far act ≡ so_far
     next_not act e = ap (λ b. way_if b act) e ∙ append_nothing so_far

@@ -1,15 +1,15 @@
 -- An answer says what was done.
-use Rattle.promises.proofs.Words.{Mark, Clean, Fault, FaultAfter, Write, History, dropped, point_in, Group, Orders, PreCommit, Flush, Hold, Cut, Commit, Release, PostCommit, open_group, next_volume}
-use Rattle.promises.proofs.Words.{change_at, Op, WriteFill, WriteStamp, Tick, DeleteSet, DeleteImage, Target, target_of, Plan, Event, Line, Provider, Idle, Fine, Deleted, Stepped, Idled, State, Kept}
-use Rattle.promises.proofs.Words.{has_image, history_of, is_kept_set, kept_image, row_of, left_now, is_flush, is_failed_step, Act, enabled, happens, step_reply, after, state, idle_now, is_fault}
-use Rattle.promises.proofs.Words.{is_flush_step, volumes_losing, row_number, kept_point, at, ticks_if, answer_of, AreGone, AnswersSay, after_enabled}
 use Rattle.std.proofs.Common.{◌≡◌, ◌∙◌, ℕ, ◌+◌, ◌<◌, zero, suc, List, [], ◌∷◌, length, Option, Some, None, refl, Bool, true, false, ap, sym, subst, map, arith}
 use Rattle.std.specs.Prelude.{◌&&◌, not, nat_lt, is_some, if◌then◌else◌}
-use Rattle.vss_model.specs.Images.{reply_of_mark, write, count_images, delete_set, delete_kept, delete_image}
+use Rattle.promises.proofs.Words.{Mark, Clean, Fault, FaultAfter, Write, History, dropped, point_in, Group, Orders, PreCommit, Flush, Hold, Cut, Commit}
+use Rattle.promises.proofs.Words.{Release, PostCommit, open_group, next_volume, change_at, Op, WriteFill, WriteStamp, Tick, DeleteSet, DeleteImage, Target}
+use Rattle.promises.proofs.Words.{target_of, Plan, Event, Line, Provider, Idle, Fine, Deleted, Stepped, Idled, State, Kept, has_image, history_of, is_kept_set}
+use Rattle.promises.proofs.Words.{kept_image, row_of, left_now, is_flush, is_failed_step, Act, enabled, happens, step_reply, after, state, idle_now, is_fault}
+use Rattle.promises.proofs.Words.{is_flush_step, volumes_losing, row_number, kept_point, at, ticks_if, answer_of, AreGone, AnswersSay, after_enabled}
+use Rattle.promises.proofs.Words.{reply_of_mark, count_images, write, delete_set, delete_kept, delete_image, and_right}
 use Rattle.promises.proofs.Clock.{clock_after}
 use Rattle.promises.proofs.Done.{dropped_gone}
 use Rattle.promises.proofs.Accepted.{line_reply}
-use Rattle.writer_meta.proofs.Laws.{and_right}
 
 -- ## writes
 

@@ -1,17 +1,15 @@
 -- Whoever has an order to answer is one whom it is for.
-use Rattle.writer_meta.proofs.Laws.{and_right}
-use Rattle.set_agenda.proofs.Closings.{unless}
-use Rattle.promises.proofs.Words.{list_any, Order, Identify, row_gathered, Group, Orders, Kind, Member, Place, Session, Plan, class_of, State, start}
-use Rattle.promises.proofs.Words.{IsAgendaOf, Act, state, orderly, IsFor, AsksItsOwn, choosing, among_filter, filter_member, member_passes}
 use Rattle.std.proofs.Common.{◌≡◌, ◌∙◌, ℕ, ◌==◌, List, [], ◌∷◌, Option, Some, None, refl, Bool, true, false, ap, sym, subst, map, filter, arith}
 use Rattle.std.specs.Prelude.{◌&&◌, ◌||◌, not, is_some}
+use Rattle.promises.proofs.Words.{and_right, unless, list_any, Order, Identify, row_gathered, Group, Orders, Kind, Member, Place, Session, Plan, class_of}
+use Rattle.promises.proofs.Words.{State, start, IsAgendaOf, Act, state, orderly, IsFor, AsksItsOwn, choosing, among_filter, filter_member, member_passes}
+use Rattle.promises.proofs.Words.{Agenda, Open, places, is_at, writers_at, members_of, waited_for, with_group, left_from, groups_left, left, is_among}
+use Rattle.promises.proofs.Words.{is_orders, order_of, order_if, open_order, Course, is_member, has_row_failed, posted, settled, begun, released, is_disabled}
+use Rattle.promises.proofs.Words.{Follows, goes_answered, goes_stepped, goes_timed, CourseCall, Answers, Steps, Times, Gathers, Prepares, Snapshots, Completes}
+use Rattle.promises.proofs.Words.{Disables, Releases, IsDue, of_calls}
 use Rattle.set_agenda.specs.declared.kind.Kind.TheVariants as kind
-use Rattle.set_agenda.specs.Agenda.{Agenda, Open, places, is_at, writers_at, members_of, waited_for, with_group, left_from, groups_left, left, is_among, is_orders, order_of, order_if, open_order}
-use Rattle.set_agenda.specs.Course.{Course, is_member, has_row_failed, posted, failed as course_failed, settled, begun, released}
-use Rattle.vss_model.specs.Sessions.{is_disabled}
-use Rattle.vss_model.proofs.HeldOfSet.{Follows, goes_answered, goes_stepped, goes_timed}
-use Rattle.vss_model.proofs.Changes.{CourseCall, Answers, Steps, Times, Gathers, Prepares, Snapshots, Completes, Disables, Fails, Releases, called, IsDue}
-use Rattle.vss_model.proofs.CourseFacts.{of_calls}
+use Rattle.set_agenda.specs.Course.{failed as course_failed}
+use Rattle.vss_model.proofs.Changes.{Fails, called}
 use Rattle.promises.proofs.OpenGroup.{every, in_kind}
 use Rattle.promises.proofs.Participants.{ChosenIn, StandsChosen, follows_all}
 use Rattle.promises.proofs.SameChoice.{SameCourse, mode_in, on_course_answered, on_course_stepped, on_course_timed}

@@ -1,10 +1,9 @@
 -- `await` tells the last result.
-use Rattle.promises.proofs.Words.{Session, check, Plan, State, runs, Act, enabled, is_blocked, happens, state, Owns, result_told, AwaitTells}
 use Rattle.std.proofs.Common.{◌≡◌, ◌∙◌, ℕ, List, refl, Bool, true, ap, sym, arith}
 use Rattle.std.specs.Prelude.{not}
+use Rattle.promises.proofs.Words.{Session, check, Plan, State, runs, Act, enabled, is_blocked, happens, reply_is, state, Owns, result_told, AwaitTells, called}
 use Rattle.requestor.specs.declared.session_call.SessionCall.TheVariants as call
 use Rattle.scenario.specs.declared.op.Op.TheVariants as op
-use Rattle.vss_model.specs.Lines.{called}
 use Rattle.promises.proofs.LastResult.{last_all}
 
 module _ (s : Plan) (st : State) (lane : ℕ) (q : Session) (own : Owns st lane q) where
@@ -15,6 +14,6 @@ module _ (s : Plan) (st : State) (lane : ℕ) (q : Session) (own : Owns st lane 
 pub await_tells : (s : Plan) (so_far : List Act) (act : Act) → AwaitTells s so_far act
 await_tells s so_far act lane q e on own =
     let st = state s so_far in
-    ap (λ x. (happens s x act.mark st).0) e
+    reply_is s st act ∙ ap (λ x. (happens s x act.mark st).0) e
     ∙ await_reply s st lane q own (runs st) refl (ap (enabled s st) (sym e) ∙ on)
     ∙ ap result_told (last_all s so_far q own.stands)

@@ -1,13 +1,10 @@
 -- The agendas that make a set: while one runs, a set is in progress. Only they have orders that decide, steps, and limits beside that of an answer.
-use Rattle.promises.proofs.Words.{Order, SetOutcome, Group, Kind, Gather, Prepare, Snapshot, Complete, Agenda, Open, places, order_now, is_working, groups_left}
-use Rattle.promises.proofs.Words.{left, Running as RunningLimit, freeze_runs, running_at, running_limits, spent_of, Course, is_decisive}
-use Rattle.promises.proofs.Words.{none_and_some, IsOfSession, IsAgendaOf, Session, State, SetRow}
 use Rattle.std.proofs.Common.{◌≡◌, ℕ, List, [], ◌∷◌, Option, Some, None, refl, Bool, true, false, arith}
 use Rattle.std.specs.Prelude.{not, is_some}
-use Rattle.set_agenda.specs.declared.limit.Limit.TheVariants.{Answer as AnswerLimit}
+use Rattle.promises.proofs.Words.{Order, SetOutcome, Group, Kind, Gather, Prepare, Snapshot, Complete, Agenda, Open, places, order_now, is_working, groups_left}
+use Rattle.promises.proofs.Words.{left, Running as RunningLimit, freeze_runs, running_at, running_limits, spent_of, Course, is_decisive, none_and_some}
+use Rattle.promises.proofs.Words.{IsOfSession, IsAgendaOf, Session, State, SetRow, Answer as AnswerLimit, ending, followed, course-concluded}
 use Rattle.promises.proofs.OpenGroup.{every}
-use Rattle.vss_model.specs.Ending.{ending, followed}
-use Rattle.vss_model.proofs.Gathered.{course-concluded}
 
 -- ## agendas that fail sets
 

@@ -1,14 +1,11 @@
 -- Who may call, and what waits.
-use Rattle.promises.proofs.Words.{BadState, Agenda, SessionCall, Verdict, Refused, Session, check, check_other, owner_only, verdict_of}
-use Rattle.promises.proofs.Words.{is_await as awaits, Op, Target, target_of, Plan, acts_as, Line, Coded, State, is_frozen, runs, judged, Act, is_blocked}
-use Rattle.promises.proofs.Words.{enabled, happens, after, state, IsAgendaOf, owns, orderly, is_owners, CallsAreOwned, may_wait, WaitsAreFew, WaitsAreDue, StandsQuiet, FrozenDoNotWrite}
-use Rattle.promises.proofs.Words.{after_enabled, after_not_enabled}
 use Rattle.std.proofs.Common.{◌≡◌, ◌∙◌, ℕ, List, Option, Some, None, Bool, true, false, ap, arith}
 use Rattle.std.specs.Prelude.{is_some}
-use Rattle.requestor.specs.declared.session_call.SessionCall.TheVariants as call
-use Rattle.vss_model.specs.Lines.{called, line}
+use Rattle.promises.proofs.Words.{BadState, Agenda, SessionCall, Verdict, Refused, Session, check, check_other, owner_only, verdict_of, is_await as awaits, Op}
+use Rattle.promises.proofs.Words.{Target, target_of, Plan, acts_as, Line, Coded, State, is_frozen, runs, judged, Act, is_blocked, enabled, happens, after}
+use Rattle.promises.proofs.Words.{state, IsAgendaOf, owns, orderly, is_owners, CallsAreOwned, may_wait, WaitsAreFew, WaitsAreDue, StandsQuiet, FrozenDoNotWrite}
+use Rattle.promises.proofs.Words.{after_enabled, after_not_enabled, called, line, not_false}
 use Rattle.writer_meta.proofs.Laws.{and_left}
-use Rattle.vss_model.proofs.GoesOn.{not_false}
 
 -- ## a call of another lane
 

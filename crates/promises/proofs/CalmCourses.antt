@@ -1,8 +1,7 @@
 -- A call of the course fails it only while an agenda runs that makes a set.
-use Rattle.promises.proofs.Words.{Order, Said, Kind, Member, left, is_working, open_order, has_failed, none_settled as calm_settled, now_if}
 use Rattle.std.proofs.Common.{◌≡◌, ℕ, List, [], ◌⊎◌, Option, Some, refl, Bool, true, false, inl, inr, arith}
-use Rattle.std.proofs.lemmas.Bool.{and_parts}
-use Rattle.set_agenda.specs.Course.{Course, posted, begun, told, answered_to, answered as course_answered, stepped as course_stepped, timed as course_timed}
+use Rattle.promises.proofs.Words.{Order, Said, Kind, Member, left, is_working, open_order, has_failed, none_settled as calm_settled, now_if, and_parts, Course}
+use Rattle.promises.proofs.Words.{posted, begun, told, answered_to, answered as course_answered, stepped as course_stepped, timed as course_timed}
 use Rattle.promises.proofs.CourseRows.{PassesOrFails, over_timed}
 use Rattle.promises.proofs.BusyAgendas.{IsBusy, busy_order, busy_step}
 

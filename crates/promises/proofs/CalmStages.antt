@@ -1,19 +1,18 @@
 -- Where the set of a session has failed, the session says so: in every other stage the course's set has not failed.
-use Rattle.promises.proofs.Words.{Context, SetOutcome, VssResult, AsyncCancelled, Said, row_gathered, Mark, Write, Group, Gather, Prepare, Snapshot, Complete, Agenda, open_group, is_working}
-use Rattle.promises.proofs.Words.{Session, agenda_ended, set_failed, Plan, State, SetRow, Kept, start, in_progress, left_now, put, reverted_as, has_failed}
-use Rattle.promises.proofs.Words.{IsOrderly, Act, after, state, IsKeptByChanges, IsKeptByWrites, kept_by_changes as orderly_kept, kept_by_writes as orderly_writes, orderly, on_after, course-step_made}
-use Rattle.promises.proofs.Words.{by_if}
 use Rattle.std.proofs.Common.{◌≡◌, ◌∙◌, ℕ, ◌+◌, List, [], ◌∷◌, ◌⊎◌, Option, Some, None, refl, Bool, true, false, ap, sym, subst, inl, inr, map, fold, arith}
 use Rattle.std.specs.Prelude.{option_map}
-use Rattle.vss_names.specs.declared.set_outcome.SetOutcome.TheVariants.{Running as RunningSet, Complete as CompleteSet, Failed as FailedSet}
-use Rattle.set_agenda.specs.Course.{Course, answered as course_answered, stepped as course_stepped, timed as course_timed}
-use Rattle.requestor.specs.declared.stage.Stage.TheVariants.{Started, Failed}
-use Rattle.vss_model.specs.Ending.{ending, concluded, followed, failed_in, failed, runs}
-use Rattle.vss_model.specs.Sessions.{begin_in, closed, has_no_volume, start_set}
-use Rattle.vss_model.specs.Steps.{answered, step_made, is_flush, is_failed_step, stepped_as, stepped, ticked, later}
+use Rattle.promises.proofs.Words.{Context, SetOutcome, VssResult, AsyncCancelled, Said, row_gathered, Mark, Write, Group, Gather, Prepare, Snapshot, Complete}
+use Rattle.promises.proofs.Words.{Agenda, open_group, is_working, Session, agenda_ended, set_failed, Plan, State, SetRow, Kept, start, in_progress, left_now}
+use Rattle.promises.proofs.Words.{put, reverted_as, has_failed, IsOrderly, Act, after, state, IsKeptByChanges, IsKeptByWrites, kept_by_changes as orderly_kept}
+use Rattle.promises.proofs.Words.{kept_by_writes as orderly_writes, orderly, on_after, course-step_made, by_if, Failed as FailedSet, Course}
+use Rattle.promises.proofs.Words.{answered as course_answered, stepped as course_stepped, timed as course_timed, Started, ending, runs, concluded, followed}
+use Rattle.promises.proofs.Words.{failed_in, failed, begin_in, closed, start_set, step_made, stepped_as, ticked, later, has_no_volume, is_flush, is_failed_step}
+use Rattle.promises.proofs.Words.{true_not_false}
+use Rattle.vss_names.specs.declared.set_outcome.SetOutcome.TheVariants.{Running as RunningSet, Complete as CompleteSet}
+use Rattle.requestor.specs.declared.stage.Stage.TheVariants.{Failed}
+use Rattle.vss_model.proofs.StateForm.{answered, stepped}
 use Rattle.promises.proofs.BusyAgendas.{IsBusy}
 use Rattle.promises.proofs.CalmCourses.{CalmOrBusy, calm_begun, calm_answered, calm_stepped, calm_timed}
-use Rattle.vss_model.proofs.Orderly.{true_not_false}
 use Rattle.promises.proofs.SameChoice.{session_made}
 
 abbrev pub IsCalm : State → Type 0

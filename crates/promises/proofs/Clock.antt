@@ -1,13 +1,11 @@
 -- What moves the clock.
-use Rattle.promises.proofs.Words.{VssResult, AsyncCancelled, Said, Mark, Write, said_of, Group}
-use Rattle.promises.proofs.Words.{open_group, Course, Session, Op, Target, target_of, Plan, Event, State, SetRow, Kept, in_progress, left_now, line_ticks, ticks_of, Act}
-use Rattle.promises.proofs.Words.{enabled, idle_now, after, state, ticks_if, ClockMoves, Covers, covered, after_enabled, after_not_enabled, by_if}
 use Rattle.std.proofs.Common.{◌≡◌, ◌∙◌, ℕ, ◌+◌, List, Option, Some, None, refl, Bool, true, false, sym, ap, arith}
 use Rattle.std.specs.Prelude.{unwrap_or}
-use Rattle.vss_model.specs.Ending.{Ending, ending, concluded, followed, runs, failed_in, failed}
-use Rattle.vss_model.specs.Images.{Replied, write, reverted_as}
-use Rattle.vss_model.specs.Sessions.{has_no_volume, closed}
-use Rattle.vss_model.specs.Steps.{answered, step_made, is_flush, is_failed_step, stepped_as, stepped, ticked, later}
+use Rattle.promises.proofs.Words.{VssResult, AsyncCancelled, Said, Mark, Write, said_of, Group, open_group, Course, Session, Op, Target, target_of, Plan, Event}
+use Rattle.promises.proofs.Words.{State, SetRow, Kept, in_progress, left_now, line_ticks, ticks_of, Act, enabled, idle_now, after, state, ticks_if, ClockMoves}
+use Rattle.promises.proofs.Words.{Covers, covered, after_enabled, after_not_enabled, by_if, Ending, ending, runs, concluded, followed, failed_in, failed}
+use Rattle.promises.proofs.Words.{Replied, write, reverted_as, closed, step_made, stepped_as, ticked, later, has_no_volume, is_flush, is_failed_step}
+use Rattle.vss_model.proofs.StateForm.{answered, stepped}
 
 clock-concluded : (e : Ending) (st : State) → (concluded e st).clock ≡ st.clock
 clock-concluded e st = grind arith

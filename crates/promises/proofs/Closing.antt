@@ -1,7 +1,6 @@
 -- The slots and the images of the closing lines.
-use Rattle.promises.proofs.Words.{Act, Clean, Image, Line, Plan, Query, Write, copies_of, copy_of, length-map, named, used}
 use Rattle.std.proofs.Common.{◌≡◌, ℕ, List, [], ◌∷◌, length, map, refl, arith}
-use Rattle.std.proofs.lemmas.List.{length-append}
+use Rattle.promises.proofs.Words.{Act, Clean, Image, Line, Plan, Query, Write, copies_of, copy_of, length-map, named, used, length-append}
 use Rattle.promises.specs.Closing.{ClosesAsKept}
 use Rattle.promises.proofs.Replies.{replies_tell}
 

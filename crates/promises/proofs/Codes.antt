@@ -1,26 +1,26 @@
 -- A set that fails has the code of its cause.
-use Rattle.promises.proofs.Words.{both_ways, Order, SetOutcome, Failed as FailedSet, VssResult, Timeout, Said, is_ok, Mark, Write, said_of, Group, Limit, Agenda, Open, groups_left, open_group}
-use Rattle.promises.proofs.Words.{open_order, order_now, is_working, left, Running as RunningLimit, first_hold, running_at, running_limits, spent_of, held_here, frozen_here, IsSpentHere, spent_here}
-use Rattle.promises.proofs.Words.{Session, Op, target_of, Plan, Event, Line, State, SetRow, in_progress, left_now, followed, runs, failed_in, failed, has_failed, Act, idle_now, state, holds_volumes}
-use Rattle.promises.proofs.Words.{held_too_long, frozen_too_long, outcome_is_running, hold_late, freeze_late, set_failure, Rising, late_code_at, late_code_in, late_code, IsAnswerCode, IsLineCode}
-use Rattle.promises.proofs.Words.{IsCode, FailsByCode, Covers, covered, after_enabled, some_same, by_if, none_settled as calm_settled}
 use Rattle.std.proofs.Common.{◌≡◌, ◌∙◌, ℕ, ◌+◌, List, [], ◌∷◌, Option, Some, None, refl, Bool, true, false, ap, sym, subst, arith}
 use Rattle.std.specs.Prelude.{◌&&◌, not, if◌then◌else◌}
-use Rattle.std.proofs.lemmas.Bool.{false_from_ne_true}
-use Rattle.vss_names.specs.declared.vss_result.VssResult.TheVariants.{Writer as WriterFault, AsyncCancelled, UnexpectedProviderError, InsufficientStorage}
-use Rattle.vss_names.specs.declared.vss_result.VssResult.TheVariants.{HoldWritesTimeout, WriterNotResponding, BadState}
+use Rattle.promises.proofs.Words.{both_ways, Order, SetOutcome, Failed as FailedSet, VssResult, Timeout, is_ok, Mark, Write, said_of, Group, Limit, Agenda}
+use Rattle.promises.proofs.Words.{Open, groups_left, open_group, open_order, order_now, is_working, left, Running as RunningLimit, first_hold, running_at}
+use Rattle.promises.proofs.Words.{running_limits, spent_of, held_here, frozen_here, IsSpentHere, spent_here, Session, Op, target_of, Plan, Event, Line, State}
+use Rattle.promises.proofs.Words.{SetRow, in_progress, left_now, followed, runs, failed_in, failed, has_failed, Act, idle_now, state, holds_volumes}
+use Rattle.promises.proofs.Words.{held_too_long, frozen_too_long, outcome_is_running, hold_late, freeze_late, set_failure, Rising, late_code_at, late_code_in}
+use Rattle.promises.proofs.Words.{late_code, IsAnswerCode, IsLineCode, IsCode, FailsByCode, Covers, covered, after_enabled, some_same, by_if}
+use Rattle.promises.proofs.Words.{none_settled as calm_settled, false_from_ne_true, AsyncCancelled, UnexpectedProviderError, InsufficientStorage}
+use Rattle.promises.proofs.Words.{HoldWritesTimeout, WriterNotResponding, BadState, Answer as AnswerLimit, Course, posted, settled, told, is_decisive, decided}
+use Rattle.promises.proofs.Words.{answered_to, answered as course_answered, stepped as course_stepped, freeze_limit, limits_now, lost, lost_to, fails_set}
+use Rattle.promises.proofs.Words.{lost_decided, treated_as, treated, timed as course_timed, set_loses_image, Replied, refused, cleared, with_room_if, put}
+use Rattle.promises.proofs.Words.{write, reverted_as, start_set, closed, step_made, stepped_as, ticked, later, has_no_volume, is_flush, is_failed_step}
+use Rattle.vss_names.specs.declared.vss_result.VssResult.TheVariants.{Writer as WriterFault}
 use Rattle.writer_state.specs.declared.said.Said.TheVariants as said
 use Rattle.writer_calls.specs.declared.answer.Answer.{Answer}
 use Rattle.writer_calls.specs.declared.answer.Answer.TheVariants.{Ok, Veto}
 use Rattle.set_agenda.specs.declared.kind.Kind.TheVariants as kind
-use Rattle.set_agenda.specs.declared.limit.Limit.TheVariants.{Hold as HoldLimit, Freeze as FreezeLimit, Answer as AnswerLimit}
-use Rattle.set_agenda.specs.Course.{Course, posted, failed as course_failed, settled, told, is_decisive, decided, answered_to, answered as course_answered}
-use Rattle.set_agenda.specs.Course.{stepped as course_stepped, freeze_limit, limits_now, lost, lost_to, fails_set, lost_decided, treated_as, treated}
-use Rattle.set_agenda.specs.Course.{timed as course_timed}
+use Rattle.set_agenda.specs.declared.limit.Limit.TheVariants.{Hold as HoldLimit, Freeze as FreezeLimit}
+use Rattle.set_agenda.specs.Course.{failed as course_failed}
 use Rattle.scenario.specs.declared.op.Op.TheVariants as op
-use Rattle.vss_model.specs.Images.{Replied, refused, cleared, set_loses_image, with_room_if, put, write, reverted_as}
-use Rattle.vss_model.specs.Sessions.{has_no_volume, start_set, closed}
-use Rattle.vss_model.specs.Steps.{answered, step_made, is_flush, is_failed_step, stepped_as, stepped, ticked, later}
+use Rattle.vss_model.proofs.StateForm.{answered, stepped}
 use Rattle.vss_model.proofs.LogRule.{Running}
 use Rattle.promises.proofs.BusyAgendas.{course_followed}
 use Rattle.promises.proofs.CalmCourses.{calm_begun, told_outcome}

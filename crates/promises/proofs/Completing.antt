@@ -1,19 +1,18 @@
 -- BackupComplete goes to no writer that has failed.
-use Rattle.scenario.proofs.Places.{number_is}
-use Rattle.vss_model.proofs.Spoken.{among_filter}
-use Rattle.promises.proofs.Words.{Order, BackupComplete, VssResult, WriterState}
-use Rattle.promises.proofs.Words.{Said, Ok, WriterRow, is_failed, row_after, Kind, Gather, Prepare, Snapshot, Complete, Member, Agenda}
-use Rattle.promises.proofs.Words.{places, has_said, waited_for, with_group, groups_left, left, is_asked, is_among, order_now, open_order, next_member, all_say, writers_at, IsKeptInCourse}
-use Rattle.promises.proofs.Words.{course_answered as kept_answered, course_stepped as kept_stepped, course_timed as kept_timed, course_begun as kept_begun, Plan, State}
-use Rattle.promises.proofs.Words.{start, state, Act, asked_if, unspoken, StandsWell, CompletesUnfailed}
 use Rattle.std.proofs.Common.{◌≡◌, ◌∙◌, ℕ, ◌+◌, ◌==◌, zero, suc, List, [], ◌∷◌, Option, Some, None, refl, Bool, true, false, ap, sym, subst, filter, arith}
 use Rattle.std.specs.Prelude.{◌||◌, not, option_map, if◌then◌else◌, slice_get}
-use Rattle.set_agenda.specs.Course.{Course, posted, failed as course_failed, rows_where, row_if, has_row_failed, row_failed, begun, told, worked, released}
+use Rattle.promises.proofs.Words.{number_is, among_filter, Order, BackupComplete, VssResult, WriterState, Said, Ok, WriterRow, is_failed, row_after, Kind}
+use Rattle.promises.proofs.Words.{Gather, Prepare, Snapshot, Complete, Member, Agenda, places, has_said, waited_for, with_group, groups_left, left, is_asked}
+use Rattle.promises.proofs.Words.{is_among, order_now, open_order, next_member, all_say, writers_at, IsKeptInCourse, course_answered as kept_answered}
+use Rattle.promises.proofs.Words.{course_stepped as kept_stepped, course_timed as kept_timed, course_begun as kept_begun, Plan, State, start, state, Act}
+use Rattle.promises.proofs.Words.{asked_if, unspoken, StandsWell, CompletesUnfailed, Course, posted, rows_where, row_if, has_row_failed, row_failed, begun}
+use Rattle.promises.proofs.Words.{told, worked, released, CourseCall, Answers, Steps, Times, Gathers, Prepares, Snapshots, Completes, Disables, Releases}
+use Rattle.promises.proofs.Words.{of_calls}
+use Rattle.set_agenda.specs.Course.{failed as course_failed}
 use Rattle.promises.proofs.LastOrder.{is_last_order, last_place, not_in_kind, still_open}
 use Rattle.promises.proofs.OpenGroup.{every}
 use Rattle.promises.proofs.Members.{one_on}
-use Rattle.vss_model.proofs.Changes.{CourseCall, Answers, Steps, Times, Gathers, Prepares, Snapshots, Completes, Disables, Fails, Releases, called}
-use Rattle.vss_model.proofs.CourseFacts.{of_calls}
+use Rattle.vss_model.proofs.Changes.{Fails, called}
 
 -- ## the course
 

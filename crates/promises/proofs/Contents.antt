@@ -1,17 +1,15 @@
 -- What changes the contents of a volume.
-use Rattle.promises.proofs.Words.{payload_bytes, zeros, Mark, Clean, FaultAfter, Write, History, last_bytes, content, written, to_restore, reverted, is_among}
-use Rattle.promises.proofs.Words.{line_of, does, Plan, blocks_of, Event, Line, State, Kept, history_of, kept_image, Act, enabled, happens, after, state}
-use Rattle.promises.proofs.Words.{as_many_volumes, at, as_many_map, as_many_gone, block_now, may_change, ContentsChange, changes_by, after_enabled, all_taken}
-use Rattle.std.proofs.Common.{◌≡◌, ◌∙◌, ℕ, ◌+◌, ◌==◌, zero, suc, List, [], ◌∷◌, ◌++◌, Some, None, refl, Bool, true, false, ◌<◌, ap, sym, subst, length, take, arith}
+use Rattle.std.proofs.Common.{◌≡◌, ◌∙◌, ℕ, ◌==◌, zero, suc, List, [], ◌∷◌, ◌++◌, Some, None, refl, Bool, true, false, ◌<◌, ap, sym, subst, length, take, arith}
 use Rattle.std.specs.Prelude.{◌&&◌, if◌then◌else◌}
-use Rattle.set_agenda.specs.Course.{change_at}
+use Rattle.promises.proofs.Words.{payload_bytes, zeros, Mark, Clean, FaultAfter, Write, History, last_bytes, content, written, to_restore, is_among, line_of}
+use Rattle.promises.proofs.Words.{does, Plan, blocks_of, Event, Line, State, Kept, history_of, kept_image, Act, enabled, happens, after, state, as_many_volumes}
+use Rattle.promises.proofs.Words.{at, as_many_map, as_many_gone, block_now, may_change, ContentsChange, changes_by, after_enabled, all_taken, change_at}
+use Rattle.promises.proofs.Words.{revert_refusal, Replied, with_room_if, write, reverted_as, revert, Change, Reverts, RevertsPart, apply, IsWrite, IsRevert}
+use Rattle.promises.proofs.Words.{Comes, by_changes, rewrites, same_writes}
 use Rattle.scenario.specs.declared.op.Op.TheVariants as op
-use Rattle.vss_model.specs.Images.{Replied, with_room_if, write, revert_refusal, reverted_as, revert}
 use Rattle.promises.proofs.Truth.{same_number}
 use Rattle.promises.proofs.Restored.{some_restored}
-use Rattle.vss_model.specs.Changes.{Change, Writes, Reverts, RevertsPart, apply}
-use Rattle.vss_model.proofs.Changes.{IsWrite, IsRevert, Comes, by_changes}
-use Rattle.vss_model.proofs.HeldWrites.{rewrites, same_writes}
+use Rattle.vss_model.specs.Changes.{Writes}
 
 -- ## one block
 

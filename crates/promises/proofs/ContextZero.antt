@@ -1,22 +1,20 @@
 -- An image of context 0 stands only while its session does.
-use Rattle.promises.proofs.Words.{Context, Backup, VssResult, AsyncCancelled, Said, Mark, Clean, Write, dropped, said_of, open_group, Group}
-use Rattle.promises.proofs.Words.{Stage, Session, has_writers, opened, started, is_stage, Plan, Event, Line, State, SetRow, Kept, start, in_progress, row_changed, left_now, has_image}
-use Rattle.promises.proofs.Words.{followed, runs, failed, NumberedFrom, IsOfSession as IsSessionOfSet, is_early, LetsGo, is_provider, is_cut_group, Act, enabled, idle_now, after, state, state-append}
-use Rattle.promises.proofs.Words.{after_cut, fewer_after, fewer_followed, true_not_false, orderly, at, stands, BackupsEnd, Covers, covered, after_enabled, after_not_enabled, some_same, by_if}
 use Rattle.std.proofs.Common.{◌≡◌, ◌∙◌, ℕ, ◌+◌, ◌==◌, List, [], ◌∷◌, ◌++◌, Option, Some, None, refl, Bool, true, false, ap, sym, subst, fold, arith}
 use Rattle.std.specs.Prelude.{◌&&◌, option_map, if◌then◌else◌}
-use Rattle.std.proofs.lemmas.Bool.{and_parts}
-use Rattle.set_agenda.specs.Course.{answered as course_answered, stepped as course_stepped, timed as course_timed}
+use Rattle.promises.proofs.Words.{Context, Backup, VssResult, AsyncCancelled, Said, Mark, Clean, Write, dropped, said_of, open_group, Group, Stage, Session}
+use Rattle.promises.proofs.Words.{has_writers, opened, started, is_stage, Plan, Event, Line, State, SetRow, Kept, start, in_progress, row_changed, left_now}
+use Rattle.promises.proofs.Words.{has_image, followed, runs, failed, NumberedFrom, IsOfSession as IsSessionOfSet, is_early, LetsGo, is_provider, is_cut_group}
+use Rattle.promises.proofs.Words.{Act, enabled, idle_now, after, state, state-append, after_cut, fewer_after, fewer_followed, true_not_false, orderly, at}
+use Rattle.promises.proofs.Words.{stands, BackupsEnd, Covers, covered, after_enabled, after_not_enabled, some_same, by_if, and_parts}
+use Rattle.promises.proofs.Words.{answered as course_answered, stepped as course_stepped, timed as course_timed, Opened, Gathered, is_backup, Replied, write}
+use Rattle.promises.proofs.Words.{reverted_as, start_set, images_released, closed, cut_set, step_made, stepped_as, ticked, later, new_set, new_number}
+use Rattle.promises.proofs.Words.{with_volume, has_no_volume, is_flush, is_failed_step, number_is}
 use Rattle.requestor.specs.declared.session_call.SessionCall.TheVariants as call
-use Rattle.requestor.specs.declared.stage.Stage.TheVariants.{Opened, Gathered}
 use Rattle.scenario.specs.declared.op.Op.TheVariants as op
-use Rattle.vss_model.specs.Images.{Replied, is_backup, write, reverted_as}
-use Rattle.vss_model.specs.Sessions.{new_set, new_number, with_volume, start_set, has_no_volume, images_released, closed}
-use Rattle.vss_model.specs.Steps.{answered, cut_set, step_made, is_flush, is_failed_step, stepped_as, stepped, ticked, later}
+use Rattle.vss_model.proofs.StateForm.{answered, stepped}
 use Rattle.promises.proofs.Done.{kept_map, dropped_gone}
 use Rattle.promises.proofs.Contexts.{context_in, context_map, changed_number, changed_context, context_other, context_new, HasMade, Owned, NoMore, Relates}
 use Rattle.promises.proofs.Contexts.{relates_same, relates_over, relates_followed, relates_failed, relates_room, relates_put, owned_by, cut_contexts, owned_cut}
-use Rattle.scenario.proofs.Places.{number_is}
 
 -- ## a new set
 

@@ -1,12 +1,11 @@
 -- What keeps the context of a set, and whose session it is.
-use Rattle.promises.proofs.Words.{Context, Backup, SetOutcome, VssResult, Mark, Write, Image, History, point_in, is_among, Course, Stage, Session}
-use Rattle.promises.proofs.Words.{stage_after, agenda_ended, set_failed, State, SetRow, in_progress, row_changed, has_image, with_room_if, put, cut_if, cut_each, cut_set}
-use Rattle.promises.proofs.Words.{NumberedFrom, IsOfSession as IsSessionOfSet, is_early, at, stands}
 use Rattle.std.proofs.Common.{◌≡◌, ◌∙◌, ℕ, ◌+◌, ◌==◌, zero, suc, List, [], ◌∷◌, ◌++◌, Option, Some, None, refl, Bool, true, false, ap, sym, subst, map, find, length, arith}
 use Rattle.std.specs.Prelude.{is_some, option_map, if◌then◌else◌}
-use Rattle.vss_model.specs.Ending.{Ending, ending, row_settled, concluded, followed, failed_in}
+use Rattle.promises.proofs.Words.{Context, Backup, SetOutcome, VssResult, Mark, Write, Image, History, point_in, is_among, Course, Stage, Session, stage_after}
+use Rattle.promises.proofs.Words.{agenda_ended, set_failed, State, SetRow, in_progress, row_changed, has_image, with_room_if, put, cut_if, cut_each, cut_set}
+use Rattle.promises.proofs.Words.{NumberedFrom, IsOfSession as IsSessionOfSet, is_early, at, stands, Ending, ending, row_settled, concluded, followed}
+use Rattle.promises.proofs.Words.{failed_in, number_is}
 use Rattle.promises.proofs.Truth.{same_number}
-use Rattle.scenario.proofs.Places.{number_is}
 
 -- ## the context of a set
 

@@ -1,18 +1,14 @@
 -- The row of a set that was cut has the clock at its cut: only the Cut step writes it, and it comes once.
-use Rattle.scenario.proofs.Places.{number_is}
-use Rattle.vss_model.proofs.Orderly.{true_not_false}
-use Rattle.promises.proofs.Words.{SetOutcome, Mark, open_group, Plan, Event, State, SetRow, in_progress, row_changed, left_now, Act, after, state, state-append}
-use Rattle.promises.proofs.Words.{cuts, or_cut, cut-append, append_nothing, both, after_cut, not_cut_yet, orderly, row_running}
-use Rattle.std.proofs.Common.{◌≡◌, ◌∙◌, ℕ, ◌+◌, ◌==◌, List, [], ◌∷◌, ◌++◌, Option, Some, None, refl, Bool, true, false, ap, sym, subst, map, find, arith}
+use Rattle.std.proofs.Common.{◌≡◌, ◌∙◌, ℕ, ◌==◌, List, [], ◌∷◌, ◌++◌, Option, Some, None, refl, Bool, true, false, ap, sym, subst, map, find, arith}
 use Rattle.std.specs.Prelude.{◌&&◌, option_map, if◌then◌else◌}
-use Rattle.set_agenda.specs.Course.{Course, stepped as course_stepped}
-use Rattle.vss_model.specs.Ending.{Ending, ending, row_settled, concluded, followed, runs}
-use Rattle.vss_model.specs.Sessions.{with_volume}
-use Rattle.vss_model.specs.Steps.{with_cut, row_cut, cut_set}
-use Rattle.vss_model.specs.Cut.{is_provider, is_cut_group, is_set, is_cut_of, cut_if, cut}
+use Rattle.promises.proofs.Words.{number_is, true_not_false, SetOutcome, Mark, open_group, Plan, Event, State, SetRow, in_progress, row_changed, left_now, Act}
+use Rattle.promises.proofs.Words.{after, state, state-append, cuts, or_cut, cut-append, append_nothing, both, after_cut, not_cut_yet, orderly, row_running}
+use Rattle.promises.proofs.Words.{Course, stepped as course_stepped, Ending, ending, row_settled, runs, concluded, followed, cut_set, with_volume, with_cut}
+use Rattle.promises.proofs.Words.{row_cut, is_provider, is_cut_group, is_set, is_cut_of, cut, Change, StartsSet, AddsVolume, IsCutAt, apply, IsCut, Comes}
+use Rattle.promises.proofs.Words.{by_changes}
+use Rattle.vss_model.specs.Cut.{cut_if}
 use Rattle.promises.proofs.Contexts.{settled_number, changed_number}
-use Rattle.vss_model.specs.Changes.{Change, StartsSet, AddsVolume, IsCutAt, Settles, apply}
-use Rattle.vss_model.proofs.Changes.{IsCut, Comes, by_changes}
+use Rattle.vss_model.specs.Changes.{Settles}
 
 -- ## the time of a set
 

@@ -1,26 +1,25 @@
 -- The component document lists what the session has named, and what comes with it.
-use Rattle.promises.proofs.Words.{list_any, bytes_eq, length-map, compact_text, AsyncCancelled, BadState, Mark, said_of, Part, Meta, full_name, is_ancestor, row_gathered, is_among, Course, begun}
-use Rattle.promises.proofs.Words.{members_from, prepared as course_prepared, Pair, Named, AllOf, is_pair, has_pair, with_pair, found_from, found_in, Names, naming_if, naming_found, naming_of}
-use Rattle.promises.proofs.Words.{is_taker, takers, has_named_ancestor, choice_if, choices_from, choices_of, chosen_from, is_named, Mode, Components, All, Session}
-use Rattle.promises.proofs.Words.{mode_of, Op, Target, target_of, Plan, WriterPlan, token, Event, Line, Reply, DocumentOf, State, start, in_progress, Replied, refused, write, followed, failed, Act}
-use Rattle.promises.proofs.Words.{enabled, idle_now, after, state, named_known_components, is_accepted, is_first, is_part, line_names, event_names, names_if, names_from, has_named, is_below}
-use Rattle.promises.proofs.Words.{parts_listed, writer_listed, writers_listed, TellsDocument, progress, is_chosen, is_unfit, choosing, is_writer, ChangesNothing, Covers, covered, after_enabled}
-use Rattle.promises.proofs.Words.{after_not_enabled}
 use Rattle.std.proofs.Common.{◌≡◌, ◌∙◌, ℕ, ◌+◌, ◌==◌, zero, suc, List, [], ◌∷◌, ◌++◌, Option, Some, None, refl, Bool, true, false, ap, sym, subst, map, length, fold, arith}
 use Rattle.std.specs.Prelude.{◌&&◌, ◌||◌, not, nat_lt, if◌then◌else◌, slice_get}
-use Rattle.std.proofs.lemmas.Bool.{false_from_ne_true}
+use Rattle.promises.proofs.Words.{list_any, bytes_eq, length-map, compact_text, AsyncCancelled, BadState, Mark, said_of, Part, Meta, full_name, is_ancestor}
+use Rattle.promises.proofs.Words.{row_gathered, is_among, Course, begun, members_from, prepared as course_prepared, Pair, Named, AllOf, is_pair, has_pair}
+use Rattle.promises.proofs.Words.{with_pair, found_from, found_in, Names, naming_if, naming_found, naming_of, is_taker, takers, has_named_ancestor, choice_if}
+use Rattle.promises.proofs.Words.{choices_from, choices_of, chosen_from, is_named, Mode, Components, All, Session, mode_of, Op, Target, target_of, Plan}
+use Rattle.promises.proofs.Words.{WriterPlan, token, Event, Line, Reply, DocumentOf, State, start, in_progress, Replied, refused, write, followed, failed, Act}
+use Rattle.promises.proofs.Words.{enabled, idle_now, after, state, named_known_components, is_accepted, is_first, is_part, line_names, event_names, names_if}
+use Rattle.promises.proofs.Words.{names_from, has_named, is_below, parts_listed, writer_listed, writers_listed, TellsDocument, progress, is_chosen, is_unfit}
+use Rattle.promises.proofs.Words.{choosing, is_writer, ChangesNothing, Covers, told_covered, after_not_enabled, false_from_ne_true, choices_data, document_of}
+use Rattle.promises.proofs.Words.{document_text, is_known, meta_if, known_metas, selected, has_no_volume, volumes_of, start_set, closed, true_not_false}
 use Rattle.set_agenda.specs.declared.kind.Kind.TheVariants as kind
-use Rattle.component_doc.specs.Document.{choices_data, document_of, document_text}
 use Rattle.requestor.specs.declared.session_call.SessionCall.TheVariants as call
 use Rattle.scenario.specs.declared.op.Op.TheVariants as op
-use Rattle.vss_model.specs.Sessions.{is_known, meta_if, known_from, known_metas, selected, start_set, has_no_volume, volumes_of, closed}
+use Rattle.vss_model.specs.Sessions.{known_from}
 use Rattle.promises.proofs.Accepted.{tells, line_reply}
 use Rattle.promises.proofs.Members.{is_selected, taker_is}
 use Rattle.promises.proofs.Participants.{chosen_by, follows_all, standing, pair_added}
 use Rattle.promises.proofs.Prepares.{named_is_known}
 use Rattle.promises.proofs.Progress.{stands_all}
 use Rattle.promises.proofs.SameChoice.{SameChoice, mode_in, same_choice, same_course, on_begun, on_followed, on_write, on_revert, on_ticked, on_agenda_begun, on_failed_in, on_answered, on_stepped}
-use Rattle.vss_model.proofs.Orderly.{true_not_false}
 
 -- ## what a line names
 
@@ -140,7 +139,8 @@ module _ (s : Plan) (w i : ℕ) (st : State) (c : Bool) (h : NamesSo w i st c) w
   }
 
   names_after : (b : Bool) (act : Act) → enabled s st act.event ≡ b → NamesSo w i (after s st act) (names_if b s w i st c act)
-  names_after b act e = grind (arith, after_enabled, covered, follows, after_not_enabled)
+  names_after true act e = told_covered Next s st follows act e
+  names_after false act e = subst (λ x. NamesSo w i x c) (sym (after_not_enabled s st act e)) h
 
 names_along : (s : Plan) (w i : ℕ) (st : State) (c : Bool) (acts : List Act) → NamesSo w i st c → NamesSo w i (fold (after s) st acts) (names_from s w i st c acts)
 names_along s w i st c [] h = h

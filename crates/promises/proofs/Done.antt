@@ -1,11 +1,11 @@
 -- What was asked for is done.
-use Rattle.promises.proofs.Words.{lt-ltb, Mark, Clean, Fault, FaultAfter, Image, History, point_in, dropped, up_to_set, reverted, reverted_in_part, change_at, DeleteSet, DeleteImage}
-use Rattle.promises.proofs.Words.{Revert, Plan, blocks_of, Event, Line, State, Kept, has_image, is_kept_set, row_of, history_of, kept_image, Act, enabled, happens, after, state, row_number}
-use Rattle.promises.proofs.Words.{kept_point, at, reverts, IsDone, stands, after_enabled, some_same}
 use Rattle.std.proofs.Common.{◌≡◌, ◌∙◌, ℕ, ◌+◌, ◌==◌, ◌<◌, zero, suc, List, [], ◌∷◌, Option, Some, None, refl, Bool, true, false, ap, sym, subst, map, arith}
 use Rattle.std.specs.Prelude.{◌&&◌, not, nat_lt, is_some, if◌then◌else◌}
-use Rattle.std.proofs.lemmas.Bool.{false_from_ne_true}
-use Rattle.vss_model.specs.Images.{Replied, count_images, delete_set, delete_kept, delete_image, revert_refusal, reverted_as, revert}
+use Rattle.promises.proofs.Words.{lt-ltb, Mark, Clean, Fault, FaultAfter, Image, History, point_in, dropped, up_to_set, reverted, reverted_in_part, change_at}
+use Rattle.promises.proofs.Words.{DeleteSet, DeleteImage, Revert, Plan, blocks_of, Event, Line, State, Kept, has_image, is_kept_set, row_of, history_of}
+use Rattle.promises.proofs.Words.{kept_image, Act, enabled, happens, after, state, row_number, kept_point, at, reverts, IsDone, stands, after_enabled}
+use Rattle.promises.proofs.Words.{some_same, false_from_ne_true, count_images, revert_refusal, Replied, delete_set, delete_kept, delete_image, reverted_as}
+use Rattle.promises.proofs.Words.{revert}
 use Rattle.promises.proofs.Truth.{not_itself, same_number}
 use Rattle.promises.proofs.GoneImages.{kept_by}
 

@@ -1,11 +1,8 @@
 -- The set that ends is told, and no other.
-use Rattle.promises.proofs.Words.{Plan, State, SetRow, is_running, NumberedFrom, Act, after, state, orderly, some_same}
 use Rattle.std.proofs.Common.{◌≡◌, ◌∙◌, ℕ, ◌+◌, ◌≤◌, ◌==◌, List, [], ◌∷◌, ◌++◌, Some, None, refl, Bool, true, false, ap, subst, arith}
 use Rattle.std.specs.Prelude.{◌&&◌, not, find, if◌then◌else◌}
-use Rattle.vss_model.specs.Effects.{ended_of}
-use Rattle.vss_model.proofs.Appending.{state-append}
+use Rattle.promises.proofs.Words.{Plan, State, SetRow, is_running, NumberedFrom, Act, after, state, orderly, some_same, ended_of, state-append, number_is}
 use Rattle.promises.specs.Ended.{TellsTheEnd}
-use Rattle.scenario.proofs.Places.{number_is}
 
 abbrev is_over : ℕ → SetRow → Bool
 is_over n q = (q.number == n) && not (is_running q.result)

@@ -1,14 +1,13 @@
 -- Each set ends, and one that nothing disturbs completes.
-use Rattle.promises.proofs.Words.{append_assoc, both_ways, SetOutcome, Move, Op, IsPlan, Plan, Event, State, SetRow, is_running, is_complete, in_progress, row_of, OverButNewest}
-use Rattle.promises.proofs.Words.{has_failed, Act, after, state, ticks_of, line_gives_cause, gives_cause, state-append, complete_ends, orderly, row_running}
-use Rattle.promises.proofs.Words.{append_nothing, some_same}
 use Rattle.std.proofs.Common.{◌≡◌, ◌∙◌, ℕ, ◌==◌, List, [], ◌∷◌, ◌++◌, Some, None, refl, Bool, true, false, ap, sym, subst, find, arith}
 use Rattle.std.specs.Prelude.{◌&&◌, if◌then◌else◌}
-use Rattle.vss_names.specs.declared.set_outcome.SetOutcome.TheVariants.{Running as RunningSet, Complete as CompleteSet, Failed as FailedSet}
+use Rattle.promises.proofs.Words.{append_assoc, both_ways, SetOutcome, Move, Op, IsPlan, Plan, Event, State, SetRow, is_running, is_complete, in_progress}
+use Rattle.promises.proofs.Words.{row_of, OverButNewest, has_failed, Act, after, state, ticks_of, line_gives_cause, gives_cause, state-append, complete_ends}
+use Rattle.promises.proofs.Words.{orderly, row_running, append_nothing, some_same, Failed as FailedSet, Line, acts, is_legal, IsLaterRow, HasLaterRow, HasEnded}
+use Rattle.promises.proofs.Words.{EndsEachSet, IsCalm, CalmWhile, HasCompleted, CompletesWhereCalm}
+use Rattle.vss_names.specs.declared.set_outcome.SetOutcome.TheVariants.{Running as RunningSet, Complete as CompleteSet}
 use Rattle.scenario.specs.declared.op.Op.TheVariants as op
-use Rattle.vss_model.specs.declared.event.Event.TheVariants.{Line}
-use Rattle.vss_model.specs.Trail.{acts, is_legal, is_complete as is_complete_trail}
-use Rattle.promises.specs.Ends.{IsLaterRow, HasLaterRow, HasEnded, EndsEachSet, IsCalm, CalmWhile, HasCompleted, CompletesWhereCalm}
+use Rattle.vss_model.specs.Trail.{is_complete as is_complete_trail}
 use Rattle.promises.proofs.Failing.{fails_for_cause}
 use Rattle.promises.proofs.OwnSlots.{loses_none}
 use Rattle.promises.proofs.SetRows.{later_again, later_row, keeps_rows, go_on_from}

@@ -1,18 +1,17 @@
 -- Exactly the kept images that a write takes are told as evicted.
-use Rattle.promises.proofs.Words.{list_any, list_all, flat_map, list_any-append, lt-ltb, Fill, Stamp, payload_bytes, Evicted, Mark, Write, History, evicted_of, is_among, Op, Target, target_of, Plan}
-use Rattle.promises.proofs.Words.{Event, Line, State, SetRow, is_complete, in_progress, has_image, is_kept_set, NumberedFrom, Act, enabled, happens, after, volumes_losing, evicted_for}
-use Rattle.promises.proofs.Words.{evicted_at, evicted, true_not_false, orderly, running_incomplete, at, FewerIn, fewer_in_over, as_many_gone, stands, Fails, is_write, is_told, goes_before}
-use Rattle.promises.proofs.Words.{are_in_order, TellsEvicted, after_enabled, and-false}
 use Rattle.std.proofs.Common.{◌≡◌, ◌∙◌, ℕ, ◌+◌, ◌==◌, ◌<◌, zero, suc, List, [], ◌∷◌, ◌++◌, ◌⊎◌, Option, Some, None, refl, Bool, true, false, ap, sym, inl, inr, filter, length, arith}
 use Rattle.std.specs.Prelude.{◌&&◌, ◌||◌, not, nat_lt, if◌then◌else◌}
-use Rattle.std.proofs.lemmas.Bool.{and_from, true_from_ne_false, or_left, or_from}
+use Rattle.promises.proofs.Words.{list_any, list_all, flat_map, list_any-append, lt-ltb, Fill, Stamp, payload_bytes, Evicted, Mark, Write, History, evicted_of}
+use Rattle.promises.proofs.Words.{is_among, Op, Target, target_of, Plan, Event, Line, State, SetRow, is_complete, in_progress, has_image, is_kept_set}
+use Rattle.promises.proofs.Words.{NumberedFrom, Act, enabled, happens, after, volumes_losing, evicted_for, evicted_at, evicted, true_not_false, orderly}
+use Rattle.promises.proofs.Words.{running_incomplete, at, FewerIn, fewer_in_over, as_many_gone, stands, Fails, is_write, is_told, goes_before, are_in_order}
+use Rattle.promises.proofs.Words.{TellsEvicted, after_enabled, and-false, and_from, true_from_ne_false, or_left, or_from, set_loses_image, cleared, with_room}
+use Rattle.promises.proofs.Words.{put, write, number_is}
 use Rattle.scenario.specs.declared.op.Op.TheVariants as op
-use Rattle.vss_model.specs.Images.{cleared, set_loses_image, with_room, put, write}
 use Rattle.promises.proofs.Truth.{both_ways}
 use Rattle.promises.proofs.Images.{volumes_put, volumes_room, roomy, wants_or_fails}
 use Rattle.promises.proofs.Participants.{off}
 use Rattle.promises.proofs.Members.{beyond, still_less}
-use Rattle.scenario.proofs.Places.{number_is}
 
 -- ## the volumes that lose an image
 

@@ -13,11 +13,9 @@ use Rattle.set_agenda.specs.Course.{Course, failed as course_failed, is_decisive
 use Rattle.requestor.specs.declared.session_call.SessionCall.TheVariants as call
 use Rattle.scenario.specs.declared.op.Op.TheVariants as op
 use Rattle.vss_model.specs.declared.event.Event.TheVariants.{Line, Answer as AnswerEvent, Provider, Idle}
-use Rattle.vss_model.specs.Ending.{ending, row_settled, concluded, followed, runs, failed_in, failed}
-use Rattle.vss_model.specs.Images.{cleared, set_loses_image, with_room_if, with_room, put, write}
-use Rattle.vss_model.specs.Sessions.{closed, line_in, judged}
-use Rattle.vss_model.specs.Steps.{answered, ticked, later}
-use Rattle.vss_model.specs.Lines.{called, line}
+use Rattle.vss_model.specs.Ending.{ending, row_settled, runs}
+use Rattle.vss_model.proofs.StateForm.{concluded, followed, failed_in, failed, cleared, with_room_if, with_room, put, write, closed, line_in, judged, answered, ticked, later, called, line}
+use Rattle.vss_model.specs.Images.{set_loses_image}
 use Rattle.promises.proofs.GoneImages.{fails_as}
 use Rattle.promises.proofs.Limits.{is_due_in, posted_fails, timed_fails}
 use Rattle.promises.proofs.Times.{late_is_due}

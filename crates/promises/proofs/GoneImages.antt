@@ -1,16 +1,15 @@
 -- Which images are gone after a change of the volumes, of the sets or of the course.
-use Rattle.promises.proofs.Words.{range_with_len, ltb-false, ltb-true, SetOutcome, VssResult, Image, History, point_in, dropped, after_set, up_to_set, Placed, lacks_slot, gone_up_to, evicted_up_to}
-use Rattle.promises.proofs.Words.{Group, Agenda, is_among, State, SetRow, is_running, in_progress}
-use Rattle.promises.proofs.Words.{has_image, cut_if, cut_each, step_made, NumberedFrom, has_failed, IsFailed, true_not_false, running_found, row_running, row_settles}
-use Rattle.promises.proofs.Words.{result-settled, at, stands, Fails, within}
 use Rattle.std.proofs.Common.{◌≡◌, ◌∙◌, ℕ, ◌+◌, ◌==◌, ◌≤◌, ◌<◌, zero, suc, List, [], ◌∷◌, ◌++◌, Option, Some, None, refl, Bool, true, false, ap, sym, subst, map, filter, find, length, arith}
 use Rattle.std.specs.Prelude.{not, nat_lt, is_some, unwrap_or, option_map, if◌then◌else◌, slice_get}
-use Rattle.vss_names.specs.declared.set_outcome.SetOutcome.TheVariants.{Running as RunningSet, Failed as FailedSet}
-use Rattle.set_agenda.specs.Course.{Course, posted, failed as course_failed, settled_in, settled, worked, stepped as course_stepped, change_at}
-use Rattle.vss_model.specs.Ending.{Ending, SetFails, ending, row_settled, images_dropped, concluded, followed, failed_in}
+use Rattle.promises.proofs.Words.{range_with_len, ltb-false, ltb-true, SetOutcome, VssResult, Image, History, point_in, dropped, after_set, up_to_set, Placed}
+use Rattle.promises.proofs.Words.{lacks_slot, gone_up_to, evicted_up_to, Group, Agenda, is_among, State, SetRow, is_running, in_progress, has_image, cut_if}
+use Rattle.promises.proofs.Words.{cut_each, step_made, NumberedFrom, has_failed, IsFailed, true_not_false, running_found, row_running, row_settles}
+use Rattle.promises.proofs.Words.{result-settled, at, stands, Fails, within, Failed as FailedSet, Course, posted, settled_in, settled, worked}
+use Rattle.promises.proofs.Words.{stepped as course_stepped, change_at, Ending, SetFails, ending, row_settled, images_dropped, concluded, followed, failed_in}
+use Rattle.promises.proofs.Words.{number_is, not_false}
+use Rattle.vss_names.specs.declared.set_outcome.SetOutcome.TheVariants.{Running as RunningSet}
+use Rattle.set_agenda.specs.Course.{failed as course_failed}
 use Rattle.promises.proofs.Members.{next_up}
-use Rattle.scenario.proofs.Places.{number_is}
-use Rattle.vss_model.proofs.GoesOn.{not_false}
 
 -- ## lists of images
 

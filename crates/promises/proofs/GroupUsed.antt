@@ -1,12 +1,10 @@
 -- How many slots the images of a group use, and where a write finds its slot.
-use Rattle.promises.proofs.Words.{and_left, Image, History, after_set, Placed, group_used, used, needs_slot, needs_slot_in, gone_up_to, lacks_slot, evicted_up_to, change_at}
-use Rattle.promises.proofs.Words.{UpTo, at, within, some_same}
 use Rattle.std.proofs.Common.{◌≡◌, ◌∙◌, ℕ, ◌+◌, ◌≤◌, ◌<◌, zero, suc, List, [], ◌∷◌, Some, refl, Bool, true, false, ap, subst, find, length, arith}
 use Rattle.std.specs.Prelude.{nat_lt, if◌then◌else◌, slice_get}
+use Rattle.promises.proofs.Words.{and_left, Image, History, after_set, Placed, group_used, used, needs_slot, needs_slot_in, gone_up_to, lacks_slot}
+use Rattle.promises.proofs.Words.{evicted_up_to, change_at, UpTo, at, within, some_same, unless, cond-false, le-ltb}
 use Rattle.promises.proofs.Truth.{no_less}
 use Rattle.promises.proofs.Shrinks.{used_in}
-use Rattle.set_agenda.proofs.Closings.{unless}
-use Rattle.std.proofs.lemmas.Bool.{cond-false, le-ltb}
 
 -- ## what each volume uses
 

@@ -1,18 +1,16 @@
 -- Who was waited for has spoken, and what the log keeps.
-use Rattle.promises.proofs.Words.{list_any, Level, Order, Identify, PrepareBackup, PrepareSnapshot, Freeze, Thaw, PostSnapshot, BackupComplete, Said, Group, Orders, PreCommit, Flush, Hold, Cut}
-use Rattle.promises.proofs.Words.{Commit, Release, PostCommit, Snapshot, Member, Place, is_member, fails_set, Plan, unspoken, true_not_false, among_filter, among_members, Deed, level_of, stage}
-use Rattle.promises.proofs.Words.{Rising, same_volume, is_heard, is_made, AreOnce, heard, agreed, made}
 use Rattle.std.proofs.Common.{◌≡◌, ◌∙◌, ℕ, ◌==◌, List, [], ◌∷◌, Option, Some, None, refl, Bool, true, false, ap, sym, subst, map, filter}
 use Rattle.std.specs.Prelude.{◌&&◌, ◌||◌, not, if◌then◌else◌}
-use Rattle.std.proofs.lemmas.Bool.{and_parts, or_left, or_right}
-use Rattle.set_agenda.specs.Agenda.{Agenda, Entry, Open, plain, places, same_order, group_code, level_code, is_orders, has_failed, has_said, is_at, writers_at}
-use Rattle.set_agenda.specs.Agenda.{members_of, waited_for, with_group, left_from, groups_left, open_place, is_among, waits_now, at_level}
+use Rattle.promises.proofs.Words.{list_any, Level, Order, Identify, PrepareBackup, PrepareSnapshot, Freeze, Thaw, PostSnapshot, BackupComplete, Said, Group}
+use Rattle.promises.proofs.Words.{Orders, PreCommit, Flush, Hold, Cut, Commit, Release, PostCommit, Snapshot, Member, Place, is_member, fails_set, Plan}
+use Rattle.promises.proofs.Words.{unspoken, true_not_false, among_filter, among_members, Deed, level_of, stage, Rising, same_volume, is_heard, is_made, AreOnce}
+use Rattle.promises.proofs.Words.{heard, agreed, made, and_parts, or_left, or_right, Agenda, Entry, Open, plain, places, same_order, group_code, level_code}
+use Rattle.promises.proofs.Words.{is_orders, has_said, is_at, writers_at, members_of, waited_for, with_group, left_from, groups_left, open_place, is_among}
+use Rattle.promises.proofs.Words.{waits_now, at_level, number_is, unless, filter_passes}
+use Rattle.set_agenda.specs.Agenda.{has_failed}
 use Rattle.promises.proofs.Levels.{Ascends, MembersOf}
 use Rattle.promises.proofs.Speaks.{deed_at, deed_in}
 use Rattle.promises.proofs.Stages.{deeds_in, open_stage, Below}
-use Rattle.scenario.proofs.Places.{number_is}
-use Rattle.set_agenda.proofs.Closings.{unless}
-use Rattle.vss_model.proofs.Gathered.{filter_passes}
 
 -- ## who was waited for has spoken
 

@@ -1,21 +1,21 @@
 -- Why an image goes: each act takes an image only for a cause.
-use Rattle.promises.proofs.Words.{Context, Backup, AppRollback, NasRollback, Failed as FailedSet, VssResult, InsufficientStorage, AsyncCancelled, Said, Mark, Clean, Write, History}
-use Rattle.promises.proofs.Words.{point_in, dropped, written, said_of, Group, open_group, Session, Op, line_of, target_in, target_of, Plan}
-use Rattle.promises.proofs.Words.{slots_of, group_of, Event, State, SetRow, Kept, is_running, in_progress, row_of, left_now, history_of, has_image, kept_image, row_settled, followed, runs, failed_in}
-use Rattle.promises.proofs.Words.{failed, NumberedFrom, has_failed, Act, enabled, idle_now, after, state, row_number, kept_point, true_not_false, orderly, at, FewerIn, fewer_written, fewer_in_same}
-use Rattle.promises.proofs.Words.{fewer_in_change, fewer_in_over, fewer_images_dropped, Covers, covered, after_enabled, after_not_enabled, by_if}
 use Rattle.std.proofs.Common.{◌≡◌, ◌∙◌, ℕ, ◌+◌, ◌≤◌, ◌<◌, List, ◌⊎◌, Option, Some, None, refl, Bool, true, false, ap, sym, subst, inl, inr, map, find, length, arith}
-use Rattle.std.proofs.lemmas.Bool.{false_from_ne_true}
-use Rattle.set_agenda.specs.Course.{Course, answered as course_answered, stepped as course_stepped, timed as course_timed, change_at}
+use Rattle.promises.proofs.Words.{Context, Backup, AppRollback, NasRollback, Failed as FailedSet, VssResult, InsufficientStorage, AsyncCancelled, Said, Mark}
+use Rattle.promises.proofs.Words.{Clean, Write, History, point_in, dropped, written, said_of, Group, open_group, Session, Op, line_of, target_in, target_of}
+use Rattle.promises.proofs.Words.{Plan, slots_of, group_of, Event, State, SetRow, Kept, is_running, in_progress, row_of, left_now, history_of, has_image}
+use Rattle.promises.proofs.Words.{kept_image, row_settled, followed, runs, failed_in, failed, NumberedFrom, has_failed, Act, enabled, idle_now, after, state}
+use Rattle.promises.proofs.Words.{row_number, kept_point, true_not_false, orderly, at, FewerIn, fewer_written, fewer_in_same, fewer_in_change, fewer_in_over}
+use Rattle.promises.proofs.Words.{fewer_images_dropped, Covers, covered, after_enabled, after_not_enabled, by_if, false_from_ne_true, Course}
+use Rattle.promises.proofs.Words.{answered as course_answered, stepped as course_stepped, timed as course_timed, change_at, Line, Provider, Idle, going_up_to}
+use Rattle.promises.proofs.Words.{set_loses_image, is_backup, Replied, cleared, with_room_if, with_room, put, write, reverted_as, images_released, closed}
+use Rattle.promises.proofs.Words.{step_made, stepped_as, ticked, later, has_no_volume, is_flush, is_failed_step, stands, Fails, IsWanted, Takes, TakesBy}
+use Rattle.promises.proofs.Words.{ImagesGoForCause, course-step_made}
 use Rattle.scenario.specs.declared.op.Op.TheVariants as op
 use Rattle.scenario.specs.declared.line.Line.{Line as Does}
-use Rattle.vss_model.specs.declared.event.Event.TheVariants.{Line, Answer as AnswerEvent, Provider, Idle}
-use Rattle.vss_model.specs.Images.{Replied, cleared, going_up_to, set_loses_image, with_room_if, with_room, put, write, reverted_as, is_backup}
-use Rattle.vss_model.specs.Sessions.{has_no_volume, images_released, closed}
-use Rattle.vss_model.specs.Steps.{answered, step_made, is_flush, is_failed_step, stepped_as, stepped, ticked, later}
-use Rattle.promises.specs.Gone.{stands, Fails, IsWanted, IsOfSession, Takes, TakesBy, ImagesGoForCause}
+use Rattle.vss_model.specs.declared.event.Event.TheVariants.{Answer as AnswerEvent}
+use Rattle.vss_model.proofs.StateForm.{answered, stepped}
+use Rattle.promises.specs.Gone.{IsOfSession}
 use Rattle.promises.proofs.GoneImages.{gone_dropped, gone_reverted, gone_map, gone_change, gone_group, left_in_group, least_sets, fails_as, gone_followed, gone_failed_in, none_stepped, made_keeps}
-use Rattle.vss_model.proofs.LogRule.{course-step_made}
 
 -- ## every act
 

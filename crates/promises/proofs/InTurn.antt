@@ -1,18 +1,16 @@
 -- Who makes the next step of a group is the first of its volumes that has not made it.
-use Rattle.promises.proofs.Words.{Group, Orders, Flush, Hold, Commit, Release, Kind, Gather, Prepare, Snapshot, Complete, Identify, PrepareBackup, BackupComplete, Place, Said, Mark, Member, Level}
-use Rattle.promises.proofs.Words.{Agenda, Plan, Stepped, SetRow, left_now, Act, happens, step_reply, state, Deed, Tied, IsOf, tied, true_not_false, some_same, way, made, is_made}
-use Rattle.promises.proofs.Words.{is_over_volumes, volume_if, waited_for, with_group, left_from, left, places, plain, open_group, next_volume, has_said}
 use Rattle.std.proofs.Common.{◌≡◌, ◌∙◌, ℕ, ◌==◌, List, [], ◌∷◌, Option, Some, None, refl, Bool, true, false, ap, sym, subst, map, filter}
 use Rattle.std.specs.Prelude.{◌||◌, not, if◌then◌else◌}
-use Rattle.set_agenda.specs.Agenda.{members_of}
-use Rattle.vss_model.specs.declared.event.Event.{Event}
+use Rattle.promises.proofs.Words.{Group, Orders, Flush, Hold, Commit, Release, Kind, Gather, Prepare, Snapshot, Complete, Identify, PrepareBackup}
+use Rattle.promises.proofs.Words.{BackupComplete, Place, Said, Mark, Member, Level, Agenda, Plan, Stepped, SetRow, left_now, Act, event_reply, step_reply}
+use Rattle.promises.proofs.Words.{state, Deed, Tied, IsOf, tied, true_not_false, some_same, way, made, is_made, is_over_volumes, volume_if, waited_for}
+use Rattle.promises.proofs.Words.{with_group, left_from, left, places, plain, open_group, next_volume, has_said, members_of, Event, StepsInTurn, is_before}
+use Rattle.promises.proofs.Words.{number_is}
 use Rattle.vss_model.proofs.LogRule.{Running}
-use Rattle.promises.specs.InTurn.{StepsInTurn, is_before}
 use Rattle.promises.proofs.Along.{IsKeptAlong, Tells, along}
 use Rattle.promises.proofs.Heard.{said_deed}
 use Rattle.promises.proofs.Speaks.{deed_at, deed_in}
 use Rattle.promises.proofs.Truth.{same_number}
-use Rattle.scenario.proofs.Places.{number_is}
 
 -- ## the first that is waited for
 
@@ -100,6 +98,6 @@ in_turn_at (Some a) ds ms r g u v told set e f b =
 pub steps_in_turn : (s : Plan) (so_far : List Act) (act : Act) → StepsInTurn s so_far act
 steps_in_turn s so_far act g u v fault r e told row b =
     let st = state s so_far in
-    let parts = step_parts (open_group (left_now st)) (next_volume (left_now st)) act.mark g v fault (sym (ap (λ (x : Event). (happens s x act.mark st).0) e) ∙ told) in
+    let parts = step_parts (open_group (left_now st)) (next_volume (left_now st)) act.mark g v fault (sym (ap (λ (x : Event). (event_reply s st x act.mark)) e) ∙ told) in
     in_turn_at st.course.agenda (way s so_far) st.course.members r g u v (along (λ (a : Agenda). Unit {0}) of_any s so_far)
     (subst (λ x. Tied st.course.agenda st.course.members x) row (tied s so_far)) parts.0 parts.1 b

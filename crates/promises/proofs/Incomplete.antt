@@ -1,12 +1,9 @@
 -- A set that an act does not complete stays incomplete, and an agenda that begins completes none.
-use Rattle.promises.proofs.Words.{VssResult, Mark, Write, Group, Session, Plan, State, SetRow, Kept, is_complete, cut_set, step_made, has_complete}
-use Rattle.promises.proofs.Words.{incomplete_settled, incomplete_map}
 use Rattle.std.proofs.Common.{◌≡◌, ℕ, ◌⊎◌, Option, refl, Bool, true, false, arith}
-use Rattle.set_agenda.specs.Course.{Course, failed as course_failed}
-use Rattle.vss_model.specs.Ending.{Ending, concluded, followed, failed_in}
-use Rattle.vss_model.specs.Images.{with_room_if, put, write, reverted_as}
-use Rattle.vss_model.specs.Sessions.{closed}
-use Rattle.vss_model.proofs.OneCut.{changed_number, changed_result}
+use Rattle.promises.proofs.Words.{VssResult, Mark, Write, Group, Session, Plan, State, SetRow, Kept, is_complete, cut_set, step_made, has_complete}
+use Rattle.promises.proofs.Words.{incomplete_settled, incomplete_map, Course, Ending, concluded, followed, failed_in, with_room_if, put, write, reverted_as}
+use Rattle.promises.proofs.Words.{closed, changed_number, changed_result}
+use Rattle.set_agenda.specs.Course.{failed as course_failed}
 
 module _ (n : ℕ) where
   incomplete_ended : (e : Ending) (st : State) → is_complete st.course.outcome ≡ false → has_complete st.sets n ≡ false → has_complete (concluded e st).sets n ≡ false

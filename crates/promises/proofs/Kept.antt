@@ -1,13 +1,12 @@
 -- Lines find exactly the images that are kept, and a revert and a deletion are answered by that.
-use Rattle.promises.proofs.Words.{ObjectNotFound, UnsupportedContext, SnapshotSetInProgress, Mark, History, point_in, Plan, Coded, Deleted, State}
-use Rattle.promises.proofs.Words.{SetRow, Kept, is_complete, in_progress, row_of, history_of, has_image, kept_of, kept_image, NumberedFrom, Act, state, orderly, has_complete, at}
-use Rattle.promises.proofs.Words.{is_kept, is_of_backup, has_in_it, revert_answer, is_deleted, FindsTheKept}
 use Rattle.std.proofs.Common.{◌≡◌, ◌∙◌, ℕ, ◌+◌, ◌==◌, ◌<◌, zero, suc, List, [], ◌∷◌, Option, Some, None, refl, Bool, true, false, ap, sym, find, arith}
 use Rattle.std.specs.Prelude.{◌&&◌, ◌||◌, nat_lt, is_some, if◌then◌else◌}
-use Rattle.std.proofs.lemmas.Bool.{and_parts}
-use Rattle.vss_model.specs.Images.{is_backup, is_in_set, revert_refusal, revert_to, revert, count_images, delete_set, delete_kept, delete_image}
+use Rattle.promises.proofs.Words.{ObjectNotFound, UnsupportedContext, SnapshotSetInProgress, Mark, History, point_in, Plan, Line, Coded, Deleted, State, SetRow}
+use Rattle.promises.proofs.Words.{Kept, is_complete, in_progress, row_of, history_of, has_image, kept_of, kept_image, NumberedFrom, Act, state, orderly}
+use Rattle.promises.proofs.Words.{has_complete, at, is_kept, is_of_backup, has_in_it, revert_answer, is_deleted, FindsTheKept, and_parts, is_backup, is_in_set}
+use Rattle.promises.proofs.Words.{revert_refusal, count_images, revert_to, revert, delete_set, delete_kept, delete_image, none_below}
+use Rattle.scenario.specs.declared.op.Op.TheVariants as op
 use Rattle.promises.proofs.Accepted.{line_reply}
-use Rattle.vss_model.proofs.Rows.{none_below}
 
 -- ## the row of a set
 
@@ -103,4 +102,12 @@ module _ (s : Plan) (so_far : List Act) where
     by_kept (Some k) = refl
 
 pub finds_the_kept : (s : Plan) (so_far : List Act) (act : Act) → FindsTheKept s so_far act
-finds_the_kept s so_far act = grind (arith, found, line_reply, revert_says, set_goes, no_set, image_says)
+finds_the_kept s so_far act =
+    let told = line_reply s (state s so_far) act in
+    record {
+      found = found s so_far;
+      reverts = λ lane n v e. told (Line lane (op.Revert n v)) e ∙ revert_says s so_far n v act.mark;
+      set_goes = λ lane n v e f. ap is_deleted (told (Line lane (op.DeleteSet n)) e) ∙ set_goes s so_far n v f;
+      no_set = λ lane n e f. told (Line lane (op.DeleteSet n)) e ∙ no_set s so_far n f;
+      image = λ lane n v e. told (Line lane (op.DeleteImage n v)) e ∙ image_says s so_far n v;
+    }

@@ -1,15 +1,13 @@
 -- An area keeps exactly the copies of what was overwritten, and none twice.
-use Rattle.promises.proofs.Words.{list_any, range_with_len, list_any-append, Write, Image, History, point_in, AreLater, AreInTime, names, blocks_named, Placed, Copy, copy_of, named, writes_since}
-use Rattle.promises.proofs.Words.{copies_of, copies_from, VolumeRow, Plan, blocks_in, blocks_of, placed, placed_in, is_among, Act, images_in_time, at, place_from, is_cut_by}
-use Rattle.promises.proofs.Words.{is_overwritten, is_copy, are_once, KeepsCopies, within, and-false, some_same}
 use Rattle.std.proofs.Common.{◌≡◌, ◌∙◌, ℕ, ◌+◌, ◌-◌, ◌==◌, ◌<◌, ◌≤◌, zero, suc, List, [], ◌∷◌, ◌++◌, Option, Some, None, refl, Bool, true, false, ap, sym, map, filter, take, drop, length, arith}
 use Rattle.std.specs.Prelude.{◌&&◌, ◌||◌, not, nat_lt, nat_le, if◌then◌else◌, slice_get}
-use Rattle.std.proofs.lemmas.Bool.{and_from, and_parts}
+use Rattle.promises.proofs.Words.{list_any, range_with_len, list_any-append, Write, Image, History, point_in, AreLater, AreInTime, names, blocks_named, Placed}
+use Rattle.promises.proofs.Words.{Copy, copy_of, named, writes_since, copies_of, copies_from, VolumeRow, Plan, blocks_in, blocks_of, placed, placed_in}
+use Rattle.promises.proofs.Words.{is_among, Act, images_in_time, at, place_from, is_cut_by, is_overwritten, is_copy, are_once, KeepsCopies, within, and-false}
+use Rattle.promises.proofs.Words.{some_same, and_from, and_parts, or-false, true_not_false}
 use Rattle.promises.proofs.Truth.{same_number}
 use Rattle.promises.proofs.Copies.{later_set, InTimeAll}
 use Rattle.promises.proofs.Members.{none_passes, range_passes, beyond, still_less}
-use Rattle.set_agenda.proofs.WriterSets.{or-false}
-use Rattle.vss_model.proofs.Orderly.{true_not_false}
 
 -- ## the copies of one image
 

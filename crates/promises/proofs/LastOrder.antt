@@ -1,15 +1,12 @@
 -- Who has the order BackupComplete open: in its agenda there is no other group, and in no other agenda is that order.
-use Rattle.promises.proofs.Words.{Order, BackupComplete, Said, is_ok, Group, Orders, Kind, Gather, Prepare, Snapshot, Complete, Place, others, advance, Agenda, Open, places, plain, is_orders}
-use Rattle.promises.proofs.Words.{waited_for, with_group, left_from, groups_left, is_asked, is_among, order_now, order_if, open_order, all_say, unasked_if-nil, groups_left-all_say, asked_if}
 use Rattle.std.proofs.Common.{◌≡◌, ◌∙◌, ℕ, List, [], ◌∷◌, Option, Some, refl, Bool, true, false, ap, sym, subst, arith}
 use Rattle.std.specs.Prelude.{◌&&◌, not}
-use Rattle.std.proofs.lemmas.Bool.{and_from, and_parts}
+use Rattle.promises.proofs.Words.{Order, BackupComplete, Said, is_ok, Group, Orders, Kind, Gather, Prepare, Snapshot, Complete, Place, others, advance, Agenda}
+use Rattle.promises.proofs.Words.{Open, places, plain, is_orders, waited_for, with_group, left_from, groups_left, is_asked, is_among, order_now, order_if}
+use Rattle.promises.proofs.Words.{open_order, all_say, unasked_if-nil, groups_left-all_say, asked_if, and_from, and_parts, unless, true_not_false, among_filter}
+use Rattle.promises.proofs.Words.{filter_passes}
 use Rattle.promises.proofs.OpenGroup.{every, in_kind}
 use Rattle.promises.proofs.Speaks.{now_group}
-use Rattle.set_agenda.proofs.Closings.{unless}
-use Rattle.vss_model.proofs.Orderly.{true_not_false}
-use Rattle.vss_model.proofs.Spoken.{among_filter}
-use Rattle.vss_model.proofs.Gathered.{filter_passes}
 
 -- ## one group alone
 

@@ -3,13 +3,14 @@ use Rattle.promises.proofs.Words.{and_left, Context, VssResult, AsyncFinished, A
 use Rattle.promises.proofs.Words.{snapshot_begun, takers, Session, makes_set, opened, agenda_ended, set_failed, Op, is_begin, begins_agenda, Target, target_of, Plan, Event}
 use Rattle.promises.proofs.Words.{Reply, Fine, Coded, Deleted, Idled, State, start, in_progress, left_now, runs, failed, Replied, refused, write, reverted_as, has_failed, Act, order_of_writer}
 use Rattle.promises.proofs.Words.{enabled, answer_reply, step_reply, idle_now, after, state, state-append, set_failure, begins_session, begins, result_by, result_after}
-use Rattle.promises.proofs.Words.{result_if, result_from, last_result, Covers, ChangesNothing, covered, after_enabled, after_not_enabled, some_same, append_nothing, and-false}
+use Rattle.promises.proofs.Words.{result_if, result_from, last_result, Covers, ChangesNothing, after_not_enabled, told_covered, some_same, append_nothing, and-false}
 use Rattle.std.proofs.Common.{◌≡◌, ◌∙◌, ℕ, List, [], ◌∷◌, ◌++◌, Option, Some, None, refl, Bool, true, false, ap, sym, subst, inl, inr, fold, arith}
 use Rattle.std.specs.Prelude.{◌&&◌, ◌||◌, not, option_map, if◌then◌else◌, length}
 use Rattle.set_agenda.specs.declared.kind.Kind.TheVariants as kind
 use Rattle.scenario.specs.declared.op.Op.TheVariants as op
 use Rattle.vss_model.specs.declared.event.Event.TheVariants.{Line, Answer as AnswerEvent, Provider, Idle}
-use Rattle.vss_model.specs.Sessions.{selected, start_set, has_no_volume, volumes_of, pending, closed}
+use Rattle.vss_model.specs.Sessions.{selected, has_no_volume, volumes_of}
+use Rattle.vss_model.proofs.StateForm.{start_set, pending, closed}
 use Rattle.promises.proofs.Turns.{Turn, quiet_turn, write_turn, revert_turn, begun_turn, answer_turn, tick_turn, step_turn, abort_turn, add_turn, none_started}
 use Rattle.promises.proofs.CalmCourses.{calm_begun}
 use Rattle.promises.proofs.SetFailures.{failure_at}
@@ -124,7 +125,8 @@ module _ (s : Plan) (so_far : List Act) (last : Option VssResult) where
     }
 
     last_if : (b : Bool) (act : Act) → enabled s st act.event ≡ b → IsLast (after s st act) (result_if b s st last act)
-    last_if b act e = grind (arith, after_enabled, covered, lasts, after_not_enabled)
+    last_if true act e = told_covered Next s st lasts act e
+    last_if false act e = subst (λ x. IsLast x last) (sym (after_not_enabled s st act e)) h
 
 -- ## every list of acts
 

@@ -1,5 +1,5 @@
 -- The levels and the freeze time-outs of the writers' rows, and the levels of the participants, are those that the scenario gives the writers.
-use Rattle.promises.proofs.Words.{Level, Order, VssResult, Said, WriterRow, one_more, row_aborted, row_gathered, row_ended, Member, IsKeptInCourse, Plan}
+use Rattle.promises.proofs.Words.{Level, Order, VssResult, Said, WriterRow, row_aborted, row_gathered, row_ended, Member, IsKeptInCourse, Plan}
 use Rattle.promises.proofs.Words.{WriterPlan, row_of_writer, Act, state, timeout_in, timeout_of, HasItsNumbers, level_in, level_of}
 use Rattle.std.proofs.Common.{◌≡◌, ◌∙◌, ℕ, ◌+◌, ◌≤◌, zero, suc, sym, List, [], ◌∷◌, ◌++◌, Some, refl, Bool, true, false, ap, map, arith}
 use Rattle.std.specs.Prelude.{slice_get}

@@ -1,9 +1,8 @@
 -- A device fails only where it is called.
-use Rattle.promises.proofs.Words.{Clean, Fault, FaultAfter, Group, Plan, Event, State, Kept, is_flush, is_flush_step, Act, state}
 use Rattle.std.proofs.Common.{◌≡◌, ℕ, List, Option, None, refl, true, arith}
 use Rattle.std.specs.Prelude.{is_some}
-use Rattle.vss_model.specs.Acts.{event_allows, may_stop_after}
-use Rattle.promises.specs.Marks.{MarksAreDue, may_fail, may_stop}
+use Rattle.promises.proofs.Words.{Clean, Fault, FaultAfter, Group, Plan, Event, State, Kept, is_flush, is_flush_step, Act, state, event_allows, may_stop_after}
+use Rattle.promises.proofs.Words.{MarksAreDue, may_fail, may_stop}
 
 same_flush : (g : Option Group) → is_flush g ≡ is_flush_step g
 same_flush None = refl

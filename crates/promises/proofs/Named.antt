@@ -1,10 +1,9 @@
 -- How many blocks writes name, and which parts of them name no more.
-use Rattle.promises.proofs.Words.{range_with_len, drop-append-le, take-append-le, length-drop, list_any-append, Write, names, blocks_named, to_restore, restoring}
-use Rattle.std.proofs.Common.{◌≡◌, ◌∙◌, ℕ, ◌+◌, ◌-◌, ◌==◌, ◌≤◌, ◌<◌, zero, suc, List, [], ◌∷◌, ◌++◌, ◌⊎◌, refl, Bool, true, false, ap, sym, subst, inl, inr, map, filter, length, take, drop, arith}
+use Rattle.std.proofs.Common.{◌≡◌, ◌∙◌, ℕ, ◌+◌, ◌==◌, ◌≤◌, ◌<◌, zero, suc, List, [], ◌∷◌, ◌++◌, ◌⊎◌, refl, Bool, true, false, ap, sym, subst, inl, inr, map, filter, length, take, drop, arith}
 use Rattle.std.specs.Prelude.{◌||◌, if◌then◌else◌, slice_range}
-use Rattle.std.proofs.lemmas.Bool.{or_cases, or_right}
+use Rattle.promises.proofs.Words.{range_with_len, drop-append-le, take-append-le, length-drop, list_any-append, Write, names, blocks_named, to_restore}
+use Rattle.promises.proofs.Words.{restoring, or_cases, or_right, number_is}
 use Rattle.promises.proofs.Truth.{chain}
-use Rattle.scenario.proofs.Places.{number_is}
 
 -- whatever these writes name, those do
 abbrev pub NameNoMore : List Write → List Write → Type 0

@@ -1,7 +1,7 @@
 -- Limits that are not spent, and the stages in which they run.
 use Rattle.promises.proofs.Words.{Level, Order, PrepareBackup, PrepareSnapshot, Freeze, hold_limit, is_spent, Group, Orders, Limit, Running as RunningLimit}
 use Rattle.promises.proofs.Words.{is_prepare_snapshot, is_hold, hold_runs, freeze_runs, runs_if, hold_running, spent_of, is_decisive, later_found}
-use Rattle.std.proofs.Common.{◌≡◌, ◌∙◌, ℕ, ◌+◌, ◌≤◌, List, [], ◌∷◌, ◌++◌, Option, Some, None, refl, Bool, true, false, arith}
+use Rattle.std.proofs.Common.{◌≡◌, ◌∙◌, ℕ, ◌≤◌, List, [], ◌∷◌, ◌++◌, Option, Some, None, refl, Bool, true, false, arith}
 use Rattle.std.specs.Prelude.{not, if◌then◌else◌}
 use Rattle.promises.proofs.Stages.{group_stage}
 

@@ -1,10 +1,9 @@
 -- No step is made twice, and nobody is heard twice to an order.
-use Rattle.promises.proofs.Words.{list_any, list_any-append, or_parts, Level, Order, Said, Orders, Snapshot, Member, Place, true_not_false, among_filter}
-use Rattle.promises.proofs.Words.{Deed, is_heard, is_again, AreOnce, heard, Spoke}
 use Rattle.std.proofs.Common.{◌≡◌, ◌∙◌, ℕ, ◌==◌, ◌≤◌, ◌<◌, List, [], ◌∷◌, ◌++◌, Option, Some, None, refl, Bool, true, false, sym, subst, map, filter, arith, ◌+◌}
 use Rattle.std.specs.Prelude.{◌||◌, not, is_some, if◌then◌else◌}
-use Rattle.std.proofs.lemmas.Bool.{or_from, false_from_ne_true, or_left, or_right}
-use Rattle.set_agenda.specs.Agenda.{Agenda, Open, places, has_said, is_at, writers_at, members_of, waited_for, with_group, left_from, open_place, is_among, waits_now}
+use Rattle.promises.proofs.Words.{list_any, list_any-append, or_parts, Level, Order, Said, Orders, Snapshot, Member, Place, true_not_false, among_filter, Deed}
+use Rattle.promises.proofs.Words.{is_heard, is_again, AreOnce, heard, Spoke, or_from, false_from_ne_true, or_left, or_right, Agenda, Open, places, has_said}
+use Rattle.promises.proofs.Words.{is_at, writers_at, members_of, waited_for, with_group, left_from, open_place, is_among, waits_now}
 use Rattle.promises.proofs.Truth.{same_number}
 use Rattle.promises.proofs.Levels.{Ascends}
 use Rattle.promises.proofs.Stages.{level_or, leveled}

@@ -1,11 +1,11 @@
 -- One more is said: it leaves no limit outrun.
-use Rattle.promises.proofs.Words.{list_any-append, Said, answer_limit, hold_limit, is_spent, Group, Kind, Gather, Prepare, Snapshot, Complete, Place, Agenda, Entry, Open, places, group_code}
-use Rattle.promises.proofs.Words.{level_code, same_place, left_from, groups_left, open_place, at_place, all_say, Running as RunningLimit, last_time, opened_at, is_prepare_snapshot, freeze_opened_at}
-use Rattle.promises.proofs.Words.{is_hold, first_hold, hold_runs, freeze_runs, answer_runs, runs_if, hold_running, running_at, spent_of}
 use Rattle.std.proofs.Common.{◌≡◌, ◌∙◌, ℕ, ◌==◌, ◌≤◌, List, ◌∷◌, ◌++◌, Option, Some, None, refl, Bool, true, false, ap, sym, subst, map, filter, arith}
 use Rattle.std.specs.Prelude.{◌&&◌, ◌||◌, not}
-use Rattle.std.proofs.lemmas.Bool.{and_parts}
-use Rattle.set_agenda.specs.declared.limit.Limit.TheVariants.{Hold as HoldLimit, Freeze as FreezeLimit, Answer as AnswerLimit}
+use Rattle.promises.proofs.Words.{list_any-append, Said, answer_limit, hold_limit, is_spent, Group, Kind, Gather, Prepare, Snapshot, Complete, Place, Agenda}
+use Rattle.promises.proofs.Words.{Entry, Open, places, group_code, level_code, same_place, left_from, groups_left, open_place, at_place, all_say}
+use Rattle.promises.proofs.Words.{Running as RunningLimit, last_time, opened_at, is_prepare_snapshot, freeze_opened_at, is_hold, first_hold, hold_runs}
+use Rattle.promises.proofs.Words.{freeze_runs, answer_runs, runs_if, hold_running, running_at, spent_of, and_parts, Answer as AnswerLimit, number_is}
+use Rattle.set_agenda.specs.declared.limit.Limit.TheVariants.{Hold as HoldLimit, Freeze as FreezeLimit}
 use Rattle.promises.proofs.Truth.{chain, not_itself}
 use Rattle.promises.proofs.Speaks.{Speaks}
 use Rattle.promises.proofs.Stages.{group_stage, open_stage, closed_stays, goes_up, snapshot_from}
@@ -13,7 +13,6 @@ use Rattle.promises.proofs.Heard.{same_group}
 use Rattle.promises.proofs.NotSpent.{at_once, none_both, none_first, none_second, unspent_if, is_unspent, unspent_hold, is_mild, hold_six, hold_nine}
 use Rattle.promises.proofs.NotSpent.{hold_between, freeze_ten, freeze_between, mild_high, is_backup_order, high_mild}
 use Rattle.promises.proofs.OpenGroup.{every, in_kind, IsOpen, IsSome, speaks_some, speaks_open, last_new, none_new, filter_along, has_hold, hold_there, hold_stays, hold_new, new_hold}
-use Rattle.scenario.proofs.Places.{number_is}
 
 -- ## one more is said
 

@@ -1,20 +1,18 @@
 -- Orders and levels: each participant is heard at its own.
-use Rattle.promises.proofs.Words.{Level, System, BackEnd, FrontEnd, Order, PrepareSnapshot, Freeze, Thaw, PostSnapshot, Said, is_ok, Group, Orders, Snapshot, Member, Place}
-use Rattle.promises.proofs.Words.{is_member, fails_set, Plan}
 use Rattle.std.proofs.Common.{◌≡◌, ◌∙◌, ℕ, ◌==◌, ◌≤◌, ◌<◌, List, [], ◌∷◌, Option, Some, None, refl, Bool, true, false, ap, sym, map, filter, arith}
 use Rattle.std.specs.Prelude.{◌&&◌, ◌||◌, not, is_some, if◌then◌else◌}
-use Rattle.std.proofs.lemmas.Bool.{and_from, and_parts, or_left, or_right}
+use Rattle.promises.proofs.Words.{Level, System, BackEnd, FrontEnd, Order, PrepareSnapshot, Freeze, Thaw, PostSnapshot, Said, is_ok, Group, Orders, Snapshot}
+use Rattle.promises.proofs.Words.{Member, Place, is_member, fails_set, Plan, and_from, and_parts, or_left, or_right, Agenda, Entry, Open, places, same_order}
+use Rattle.promises.proofs.Words.{order_code, group_code, level_code, order_of, is_orders, is_at, writers_at, members_of, waited_for, with_group, left_from}
+use Rattle.promises.proofs.Words.{open_place, is_among, level_of, is_heard, is_agreed, heard, agreed, number_is, all_said}
 use Rattle.vss_names.specs.Level.{number_of}
-use Rattle.set_agenda.specs.Agenda.{Agenda, Entry, Open, places, same_order, order_code, group_code, level_code, order_of, is_orders, has_failed, is_at}
-use Rattle.set_agenda.specs.Agenda.{writers_at, members_of, waited_for, with_group, left_from, open_place, is_among}
-use Rattle.promises.specs.Way.{level_of, is_heard, is_agreed, heard, agreed, failed}
+use Rattle.set_agenda.specs.Agenda.{has_failed}
+use Rattle.promises.specs.Way.{failed}
 use Rattle.promises.proofs.Truth.{same_number}
 use Rattle.promises.proofs.Levels.{MembersOf}
 use Rattle.promises.proofs.Speaks.{deed_at, deed_in}
 use Rattle.promises.proofs.Stages.{deeds_in, level_or, leveled, Closed}
 use Rattle.promises.proofs.Heard.{same_group, said_deed}
-use Rattle.scenario.proofs.Places.{number_is}
-use Rattle.vss_model.proofs.AtCut.{all_said}
 
 -- ## orders
 

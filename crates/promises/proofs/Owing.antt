@@ -1,28 +1,30 @@
 -- Nobody owes an answer once the agenda that asked for it is over: while it runs, whoever owes one is waited for; and it ends only where
 -- nobody is.
-use Rattle.promises.proofs.Words.{list_any, list_any-append, Context, Order, SetOutcome, VssResult, AsyncCancelled, AsyncPending, BadState, Said}
-use Rattle.promises.proofs.Words.{Lost, is_ok, row_gathered, WriterRow, Mark, Write, takers, said_of, Group, Orders, Kind, Gather, Prepare, Snapshot, Complete, Member, Place, Agenda}
-use Rattle.promises.proofs.Words.{Entry, Open, plain, order_of, has_said, same_place, writers_at, groups_left, left, open_group, open_place, is_among}
-use Rattle.promises.proofs.Words.{is_working, is_done, at_place, all_say, order_now, waits_now, spent_of, Stage, Session, opened, started as session_started, has_writers}
-use Rattle.promises.proofs.Words.{stage_after, agenda_ended, set_failed, is_stage, Op, begins_agenda, Target, target_of, Plan, runs, followed, failed_in, failed, SetRow, State, Kept, in_progress}
-use Rattle.promises.proofs.Words.{left_now, Event, Reply, Fine, Coded, Deleted, has_failed, IsAgendaOf, line_ticks, lost_order_if, Act, enabled, order_of_writer, idle_now}
-use Rattle.promises.proofs.Words.{answer_reply, after, state, LetsGo, is_pending, Settles, among_filter, state-append, append_nothing, orderly, Deed, Spoke, deeds_lost, Asking, ToIdentify}
-use Rattle.promises.proofs.Words.{ForConsent, AtCompletion, order_for, asks, step_for, is_asked_of, is_reply, owes_after, owes_if, owes_from, owes, NobodyOwes, Step, ByGather, ByPrepare}
-use Rattle.promises.proofs.Words.{ByComplete, progress, is_step, is_writer, choosing, Covers, covered, after_enabled, after_not_enabled, some_same, by_if, none_runs}
 use Rattle.std.proofs.Common.{◌≡◌, ◌∙◌, ℕ, ◌+◌, ◌==◌, List, [], ◌∷◌, ◌++◌, Option, Some, None, refl, Bool, true, false, ap, sym, subst, inl, inr, map, filter, length, arith}
 use Rattle.std.specs.Prelude.{◌&&◌, ◌||◌, not, is_some, option_map, if◌then◌else◌, nat_lt}
-use Rattle.std.proofs.lemmas.Bool.{and_parts, false_from_ne_true, or_left, or_right}
+use Rattle.promises.proofs.Words.{list_any, list_any-append, Context, Order, SetOutcome, VssResult, AsyncCancelled, AsyncPending, BadState, Said, Lost, is_ok}
+use Rattle.promises.proofs.Words.{row_gathered, WriterRow, Mark, Write, takers, said_of, Group, Orders, Kind, Gather, Prepare, Snapshot, Complete, Member}
+use Rattle.promises.proofs.Words.{Place, Agenda, Entry, Open, plain, order_of, has_said, same_place, writers_at, groups_left, left, open_group, open_place}
+use Rattle.promises.proofs.Words.{is_among, is_working, is_done, at_place, all_say, order_now, waits_now, spent_of, Stage, Session, opened}
+use Rattle.promises.proofs.Words.{started as session_started, has_writers, stage_after, agenda_ended, set_failed, is_stage, Op, begins_agenda, Target}
+use Rattle.promises.proofs.Words.{target_of, Plan, runs, followed, failed_in, failed, SetRow, State, Kept, in_progress, left_now, Event, Reply, Fine, Coded}
+use Rattle.promises.proofs.Words.{Deleted, has_failed, IsAgendaOf, line_ticks, lost_order_if, Act, enabled, order_of_writer, idle_now, answer_reply, after}
+use Rattle.promises.proofs.Words.{state, LetsGo, is_pending, Settles, among_filter, state-append, append_nothing, orderly, Deed, Spoke, deeds_lost, Asking}
+use Rattle.promises.proofs.Words.{ToIdentify, ForConsent, AtCompletion, order_for, asks, step_for, is_asked_of, is_reply, owes_after, owes_if, owes_from, owes}
+use Rattle.promises.proofs.Words.{NobodyOwes, Step, ByGather, ByPrepare, ByComplete, progress, is_step, is_writer, choosing, Covers, after_not_enabled}
+use Rattle.promises.proofs.Words.{told_covered, some_same, by_if, none_runs, and_parts, false_from_ne_true, or_left, or_right, Course, is_member, fails_set}
+use Rattle.promises.proofs.Words.{begun, answered as course_answered, stepped as course_stepped, timed as course_timed, settled, settled_if, posted, released}
+use Rattle.promises.proofs.Words.{limits_now, lost_at, members_from, has_row_failed, prepared as course_prepared, Opened, Gathered, Started, Prepared, Done}
+use Rattle.promises.proofs.Words.{Finished, Line, Provider, Replied, refused, with_room_if, put, write, reverted_as, disable, start_set, closed, pending}
+use Rattle.promises.proofs.Words.{gather, complete, stepped_as, ticked, later, new_number, has_no_volume, is_disabled, selected, is_flush, is_failed_step}
+use Rattle.promises.proofs.Words.{unspoken, number_is, unless, is_opened, is_started, is_done_stage, filter_passes}
 use Rattle.writer_calls.specs.declared.answer.Answer.{Answer}
-use Rattle.set_agenda.specs.Course.{Course, is_member, fails_set, begun, answered as course_answered, stepped as course_stepped, timed as course_timed, settled, settled_if, posted}
-use Rattle.set_agenda.specs.Course.{failed as course_failed, released, limits_now, lost_at, members_from, has_row_failed, prepared as course_prepared}
-use Rattle.requestor.specs.declared.stage.Stage.TheVariants.{Opened, Gathered, Started, Prepared, Done, Finished}
+use Rattle.set_agenda.specs.Course.{failed as course_failed}
 use Rattle.requestor.specs.declared.session_call.SessionCall.TheVariants as call
 use Rattle.scenario.specs.declared.op.Op.TheVariants as op
-use Rattle.vss_model.specs.declared.event.Event.TheVariants.{Line, Answer as AnswerEvent, Provider}
-use Rattle.vss_model.specs.Images.{Replied, refused, with_room_if, put, write, reverted_as}
-use Rattle.vss_model.specs.Sessions.{disable, new_number, start_set, has_no_volume, closed, is_disabled, selected, pending, gather, complete}
-use Rattle.vss_model.specs.Steps.{answered, is_flush, is_failed_step, stepped_as, stepped, ticked, later}
-use Rattle.vss_model.proofs.LogRule.{Running, unspoken}
+use Rattle.vss_model.specs.declared.event.Event.TheVariants.{Answer as AnswerEvent}
+use Rattle.vss_model.proofs.StateForm.{answered, stepped}
+use Rattle.vss_model.proofs.LogRule.{Running}
 use Rattle.promises.proofs.Scripts.{kept_among}
 use Rattle.promises.proofs.Speaks.{deed_at, deed_in, said_at, Grows, made_now, lost_told, grows_answered, grows_stepped, grows_timed}
 use Rattle.promises.proofs.BusyAgendas.{course_followed}
@@ -33,10 +35,6 @@ use Rattle.promises.proofs.Turns.{Turn, begun_turn, answer_turn, tick_turn, step
 use Rattle.promises.proofs.Members.{members_from_are}
 use Rattle.promises.proofs.CalmStages.{IsCalm, calm_kept, calm_always}
 use Rattle.promises.proofs.Participants.{Follows, follows_all, standing, asked_by, asked_are}
-use Rattle.scenario.proofs.Places.{number_is}
-use Rattle.set_agenda.proofs.Closings.{unless}
-use Rattle.vss_model.proofs.OrderlyActs.{is_opened, is_started, is_done_stage}
-use Rattle.vss_model.proofs.Gathered.{filter_passes}
 
 abbrev p0 : Asking → Place
 p0 i = plain (Orders (order_for i))
@@ -532,7 +530,8 @@ module _ (s : Plan) (so_far : List Act) (i : Asking) (w : ℕ) where
     }
 
     stands_if : (b : Bool) (act : Act) → enabled s st act.event ≡ b → Stands i w (after s st act) (owes_if b i w s so_far act c)
-    stands_if b act e = grind (arith, after_enabled, covered, every_act, after_not_enabled)
+    stands_if true act e = told_covered Next s st every_act act e
+    stands_if false act e = subst (λ x. Stands i w x c) (sym (after_not_enabled s st act e)) h
 
 -- ## every list of acts
 

@@ -5,7 +5,6 @@ use Rattle.promises.proofs.Words.{orderly, at, HasNoSlot, WritesFailForSlots, wi
 use Rattle.std.proofs.Common.{◌≡◌, ◌∙◌, ℕ, ◌+◌, ◌<◌, ◌≤◌, zero, suc, List, [], ◌∷◌, Option, Some, None, refl, Bool, true, false, ap, sym, subst, find, length, arith}
 use Rattle.std.specs.Prelude.{◌&&◌, ◌||◌, not, nat_lt, unwrap_or, if◌then◌else◌, slice_get}
 use Rattle.std.proofs.lemmas.Bool.{false_from_ne_true}
-use Rattle.scenario.specs.declared.op.Op.TheVariants as op
 use Rattle.promises.proofs.Failing.{fails_for_cause}
 use Rattle.promises.proofs.GoneImages.{gone_group, left_in_group, least_sets}
 

@@ -1,19 +1,18 @@
 -- Who takes part: along the acts of a session the participants are those that its `prepare` chose, of what its lines have said.
-use Rattle.promises.proofs.Words.{list_any, length-map, list_any-append, Context, BadState, AsyncCancelled, row_gathered, row_ended, Mark, said_of, Meta, Member, is_among, Pair, Names, naming}
-use Rattle.promises.proofs.Words.{naming_of, naming_found, naming_if, has_pair, found_in, with_pair, comes_before, takers, Mode, Session, mode_of, opened, Op, Target, target_of, Plan}
-use Rattle.promises.proofs.Words.{class_of, token, Event, Line, Reply, State, start, in_progress, row_of_writer, followed, failed, Replied, refused, write, Act, enabled, idle_now, after, state}
-use Rattle.promises.proofs.Words.{Choosing, unsaid, is_chosen, line_says, event_says, is_unfit, choosing_if, choosing_from, choosing, is_writer, ChosenTakePart, Covers}
-use Rattle.promises.proofs.Words.{ChangesNothing, covered, after_enabled, after_not_enabled}
 use Rattle.std.proofs.Common.{◌≡◌, ◌∙◌, ℕ, ◌==◌, List, [], ◌∷◌, ◌++◌, Option, Some, None, refl, Bool, true, false, ap, sym, subst, map, fold, length, arith}
 use Rattle.std.specs.Prelude.{◌&&◌, ◌||◌, not, if◌then◌else◌}
+use Rattle.promises.proofs.Words.{list_any, length-map, list_any-append, Context, BadState, AsyncCancelled, row_gathered, row_ended, Mark, said_of, Meta}
+use Rattle.promises.proofs.Words.{Member, is_among, Pair, Names, naming, naming_of, naming_found, naming_if, has_pair, found_in, with_pair, comes_before}
+use Rattle.promises.proofs.Words.{takers, Mode, Session, mode_of, opened, Op, Target, target_of, Plan, class_of, token, Event, Line, Reply, State, start}
+use Rattle.promises.proofs.Words.{in_progress, row_of_writer, followed, failed, Replied, refused, write, Act, enabled, idle_now, after, state, Choosing, unsaid}
+use Rattle.promises.proofs.Words.{is_chosen, line_says, event_says, is_unfit, choosing_if, choosing_from, choosing, is_writer, ChosenTakePart, Covers}
+use Rattle.promises.proofs.Words.{ChangesNothing, after_not_enabled, told_covered, Course, begun, is_member, members_from, prepared as course_prepared}
+use Rattle.promises.proofs.Words.{snapshot_begun, released, is_disabled, known_metas, selected, has_no_volume, volumes_of, disable, pending, closed, or-false}
 use Rattle.set_agenda.specs.declared.kind.Kind.TheVariants as kind
-use Rattle.set_agenda.specs.Course.{Course, begun, is_member, members_from, prepared as course_prepared, snapshot_begun, released}
 use Rattle.scenario.specs.declared.op.Op.TheVariants.{Prepare, Snapshot}
-use Rattle.vss_model.specs.Sessions.{is_disabled, known_metas, disable, pending, selected, has_no_volume, volumes_of, closed}
 use Rattle.promises.proofs.Members.{is_selected, selected_are}
 use Rattle.promises.proofs.SameChoice.{same_course, SameChoice, same_choice, same_beside, mode_in, on_begun, on_agenda_begun, on_followed, on_failed_in}
 use Rattle.promises.proofs.SameChoice.{on_answered, on_ticked, on_stepped, on_write, on_revert}
-use Rattle.set_agenda.proofs.WriterSets.{or-false}
 
 -- ## who has failed at Identify, in the words of the promise
 
@@ -177,7 +176,8 @@ module _ (s : Plan) (w : ℕ) (st : State) (c : Choosing) (h : Follows s w st c)
   }
 
   follows_if : (b : Bool) (act : Act) → enabled s st act.event ≡ b → Follows s w (after s st act) (choosing_if b s w st c act)
-  follows_if b act e = grind (arith, after_enabled, covered, follows, after_not_enabled)
+  follows_if true act e = told_covered Next s st follows act e
+  follows_if false act e = subst (λ x. Follows s w x c) (sym (after_not_enabled s st act e)) h
 
   follows_after : (act : Act) → Follows s w (after s st act) (choosing_if (enabled s st act.event) s w st c act)
   follows_after act = follows_if (enabled s st act.event) act refl

@@ -2,12 +2,13 @@
 use Rattle.promises.proofs.Words.{list_any, list_all, length-map, AsyncPending, BadState, AsyncCancelled, row_gathered, Mark, said_of, Course, begun, is_member, prepared as course_prepared}
 use Rattle.promises.proofs.Words.{snapshot_begun, names_selectable, is_ascending, Pair, takers, Mode, Session, mode_of, Op, begins_agenda, Target, target_of, Plan, Event, Line, Reply, Coded, State}
 use Rattle.promises.proofs.Words.{SetRow, in_progress, followed, failed, Replied, refused, Act, enabled, reply, idle_now, after, state, is_pending, named_known_components, known_at, named_known}
-use Rattle.promises.proofs.Words.{AreOver, none_after, Choosing, is_chosen, is_unfit, choosing, is_writer, is_prepare, TakesPart, Covers, ChangesNothing, covered, after_enabled, after_not_enabled}
+use Rattle.promises.proofs.Words.{AreOver, none_after, Choosing, is_chosen, is_unfit, choosing, is_writer, is_prepare, TakesPart, Covers, ChangesNothing, covered, after_enabled, after_not_enabled, told_covered}
 use Rattle.std.proofs.Common.{◌≡◌, ◌∙◌, ℕ, ◌+◌, ◌==◌, List, [], Option, Some, None, refl, Bool, true, false, ap, sym, subst, map, length, arith}
 use Rattle.std.specs.Prelude.{◌&&◌, not, if◌then◌else◌, slice_get}
 use Rattle.set_agenda.specs.declared.kind.Kind.TheVariants as kind
 use Rattle.scenario.specs.declared.op.Op.TheVariants.{Prepare}
-use Rattle.vss_model.specs.Sessions.{is_disabled, is_known, known_metas, has_failed_identify, pending, selected, has_no_volume, volumes_of, closed}
+use Rattle.vss_model.specs.Sessions.{is_disabled, is_known, known_metas, has_failed_identify, selected, has_no_volume, volumes_of}
+use Rattle.vss_model.proofs.StateForm.{pending, closed}
 use Rattle.promises.proofs.SameChoice.{same_course, same_choice, on_begun, on_agenda_begun, on_followed, on_failed_in, on_answered, on_ticked, on_stepped, on_write, on_revert}
 use Rattle.promises.proofs.Participants.{Follows, standing, asked_by, asked_are, follows_all}
 use Rattle.writer_meta.proofs.Laws.{and_left, and_right}
@@ -117,7 +118,7 @@ module _ (s : Plan) (w : ℕ) (st : State) (c : Choosing) (h : Follows s w st c)
 
   chosen_in : (act : Act) (lane : ℕ) → act.event ≡ Line lane Prepare → enabled s st act.event ≡ true → reply s st act ≡ Coded AsyncPending
       → (is_member (after s st act).course.members w ≡ (is_writer s w && is_chosen (is_unfit st w) c)) × (is_chosen (is_unfit st w) c ≡ true → c.disabled ≡ false)
-  chosen_in act lane e on told = grind (arith, covered, chooses, after_enabled)
+  chosen_in act lane e on told = told_covered Chooses s st chooses act on lane e told
 
 pub takes_part : (s : Plan) (so_far : List Act) (act : Act) → TakesPart s so_far act
 takes_part s so_far act =

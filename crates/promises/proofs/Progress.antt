@@ -1,24 +1,24 @@
 -- A session stands where its accepted lines have brought it.
-use Rattle.promises.proofs.Words.{Context, VssResult, AsyncPending, AsyncCancelled, BadState, number_of, context_of_number, IsLookUp-context_of_number}
-use Rattle.promises.proofs.Words.{Mark, Clean, said_of, open_group, next_volume, Course, prepared, snapshot_begun, takers, Stage, Session, has_writers, makes_set, context_of, context_if, without_all}
-use Rattle.promises.proofs.Words.{mode_of, opened, started as session_started, stage_after, agenda_ended, set_failed, is_stage, Op, Target, target_of, Plan, Event, Reply, Fine, Coded, Deleted, Idled}
-use Rattle.promises.proofs.Words.{State, SetRow, start, in_progress, left_now, followed, runs, failed, Replied, refused, write, reverted_as, LetsGo, IsAgendaOf, IsOfSession, has_failed, Act}
-use Rattle.promises.proofs.Words.{order_of_writer, enabled, answer_reply, step_reply, reply, idle_now, after, state, state-append, orderly, set_failure, Step, ByBegin}
-use Rattle.promises.proofs.Words.{ByGather, ByStart, ByPrepare, BySnapshot, ByComplete, ByFailure, Progress, line_brings, event_brings, lost_if, progress_after, progress_if, progress_from, progress}
-use Rattle.promises.proofs.Words.{HasItsContext, set_fails, Covers, ChangesNothing, covered, after_enabled, after_not_enabled, some_same, append_nothing}
 use Rattle.std.proofs.Common.{◌≡◌, ◌∙◌, ℕ, List, [], ◌∷◌, ◌++◌, Option, Some, None, refl, Bool, true, false, ap, sym, subst, inl, inr, fold, arith}
 use Rattle.std.specs.Prelude.{is_some, option_map, option_and_then, if◌then◌else◌, length}
-use Rattle.std.proofs.lemmas.Bool.{and_parts}
+use Rattle.promises.proofs.Words.{Context, VssResult, AsyncPending, AsyncCancelled, BadState, number_of, context_of_number, IsLookUp-context_of_number, Mark}
+use Rattle.promises.proofs.Words.{Clean, said_of, open_group, next_volume, Course, prepared, snapshot_begun, takers, Stage, Session, has_writers, makes_set}
+use Rattle.promises.proofs.Words.{context_of, context_if, without_all, mode_of, opened, started as session_started, stage_after, agenda_ended, set_failed}
+use Rattle.promises.proofs.Words.{is_stage, Op, Target, target_of, Plan, Event, Reply, Fine, Coded, Deleted, Idled, State, SetRow, start, in_progress, left_now}
+use Rattle.promises.proofs.Words.{followed, runs, failed, Replied, refused, write, reverted_as, LetsGo, IsAgendaOf, IsOfSession, has_failed, Act}
+use Rattle.promises.proofs.Words.{order_of_writer, enabled, answer_reply, step_reply, idle_now, after, state, state-append, orderly, set_failure, Step, ByBegin}
+use Rattle.promises.proofs.Words.{ByGather, ByStart, ByPrepare, BySnapshot, ByComplete, ByFailure, Progress, line_brings, event_brings, lost_if, progress_after}
+use Rattle.promises.proofs.Words.{progress_if, progress_from, progress, HasItsContext, set_fails, Covers, ChangesNothing, after_not_enabled, told_covered}
+use Rattle.promises.proofs.Words.{some_same, append_nothing, and_parts, Opened, Gathered, Started, Prepared, Done, Finished, Line, Provider, Idle, selected}
+use Rattle.promises.proofs.Words.{has_no_volume, volumes_of, new_number, start_set, pending, closed, is_opened, is_started, is_done_stage}
 use Rattle.set_agenda.specs.declared.kind.Kind.TheVariants as kind
-use Rattle.requestor.specs.declared.stage.Stage.TheVariants.{Opened, Gathered, Started, Prepared, Done, Finished, Failed}
+use Rattle.requestor.specs.declared.stage.Stage.TheVariants.{Failed}
 use Rattle.requestor.specs.declared.session_call.SessionCall.TheVariants as call
 use Rattle.scenario.specs.declared.op.Op.TheVariants as op
-use Rattle.vss_model.specs.declared.event.Event.TheVariants.{Line, Answer as AnswerEvent, Provider, Idle}
-use Rattle.vss_model.specs.Sessions.{selected, start_set, has_no_volume, volumes_of, pending, new_number, closed}
+use Rattle.vss_model.specs.declared.event.Event.TheVariants.{Answer as AnswerEvent}
 use Rattle.promises.proofs.CalmCourses.{calm_begun}
 use Rattle.promises.proofs.SetFailures.{failure_at}
 use Rattle.promises.proofs.Turns.{Turn, quiet_turn, write_turn, revert_turn, begun_turn, answer_turn, tick_turn, step_turn, abort_turn, add_turn, none_started}
-use Rattle.vss_model.proofs.OrderlyActs.{is_opened, is_started, is_done_stage}
 
 -- ## where a session stands
 
@@ -204,8 +204,7 @@ module _ (s : Plan) (so_far : List Act) (p : Progress) where
     }
 
     stands_if : (b : Bool) (act : Act) → enabled s st act.event ≡ b → Stands (after s st act) (progress_if b s st p act)
-    stands_if true act e = let same = after_enabled s st act e
-        in subst (λ (x : State). Stands x (progress_after st act.event (reply s st act) x p)) (sym same) (covered Next s st stands_on act.event act.mark e)
+    stands_if true act e = told_covered Next s st stands_on act e
     stands_if false act e = subst (λ (x : State). Stands x p) (sym (after_not_enabled s st act e)) h
 
 -- ## every list of acts

@@ -1,10 +1,9 @@
 -- `properties` tells a kept image: its set's context, the clock at the cut, and the slots that it uses.
-use Rattle.promises.proofs.Words.{range_with_len, AreInTime, images_in_time, is_overwritten, Write, Image, point_in, named, names, used_by, writes_since, Plan}
-use Rattle.promises.proofs.Words.{blocks_of, Line, PropertiesOf, State, SetRow, Kept, kept_of, kept_image, row_of, history_of}
-use Rattle.promises.proofs.Words.{properties, Act, happens, reply, state, row_number, TellsTheImage, PropertiesTell, some_same}
 use Rattle.std.proofs.Common.{◌≡◌, ◌∙◌, ℕ, ◌==◌, List, [], ◌∷◌, Option, Some, None, refl, Bool, true, false, ap, sym, arith}
 use Rattle.std.specs.Prelude.{drop, filter, is_some, option_map, unwrap_or, if◌then◌else◌, length}
-use Rattle.promises.specs.Properties.{overwritten}
+use Rattle.promises.proofs.Words.{range_with_len, AreInTime, images_in_time, is_overwritten, Write, Image, point_in, named, names, used_by, writes_since, Plan}
+use Rattle.promises.proofs.Words.{blocks_of, Line, PropertiesOf, State, SetRow, Kept, kept_of, kept_image, row_of, history_of, properties, Act, event_reply}
+use Rattle.promises.proofs.Words.{reply, state, row_number, TellsTheImage, PropertiesTell, some_same, overwritten}
 use Rattle.scenario.specs.declared.op.Op.TheVariants as op
 use Rattle.promises.proofs.CutTimes.{cut_time}
 use Rattle.promises.proofs.KeptCopies.{earlier, overwritten_along, since_cut}
@@ -44,7 +43,7 @@ module _ (s : Plan) (so_far : List Act) (act : Act) (lane n v : ℕ) (e : act.ev
   st = state s so_far
 
   told : reply s st act ≡ (properties s v (kept_image st n v) st).0
-  told = ap (λ x. (happens s x act.mark st).0) e
+  told = ap (λ x. (event_reply s st x act.mark)) e
 
   image_told : (o : Option Kept) → kept_image st n v ≡ o → is_some o ≡ true → TellsTheImage s so_far n v (reply s st act)
   image_told None f g = absurd cc

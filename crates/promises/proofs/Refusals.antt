@@ -9,7 +9,7 @@ use Rattle.std.proofs.Common.{◌≡◌, ◌∙◌, ℕ, ◌+◌, ◌==◌, List
 use Rattle.std.specs.Prelude.{◌&&◌, ◌||◌, not, nat_le, nat_lt, is_some, is_none, slice_get, if◌then◌else◌}
 use Rattle.requestor.specs.declared.session_call.SessionCall.TheVariants as call
 use Rattle.scenario.specs.declared.op.Op.TheVariants as op
-use Rattle.vss_model.specs.Lines.{called}
+use Rattle.vss_model.proofs.StateForm.{called}
 use Rattle.promises.proofs.Accepted.{allowed_in, same_stage, start_stage, either_stage, writers_asked, makes_its_set, line_reply}
 use Rattle.promises.proofs.Progress.{stage_of, StandsAt, stands_all}
 
@@ -184,4 +184,12 @@ module _ (s : Plan) (so_far : List Act) (lane : ℕ) where
   beside_refused c o same start on waits fine e = grind arith
 
 pub refuses_for_cause : (s : Plan) (so_far : List Act) (act : Act) → RefusesForCause s so_far act
-refuses_for_cause s so_far act = grind (arith, line_reply, refused_line, begin_refused, beside_refused)
+refuses_for_cause s so_far act =
+    let told = line_reply s (state s so_far) act in
+    record {
+      ordered = λ lane o e f g. let is = told (Line lane o) e in is ∙ refused_line s so_far lane o act.mark f (ap is_accepted (sym is) ∙ g);
+      begins = λ lane n all e g. let is = told (Line lane (op.Begin n all)) e in is ∙ begin_refused s so_far lane n all (ap is_fine (sym is) ∙ g);
+      aborts = λ lane e g.
+          let is = told (Line lane op.Abort) e in is ∙ beside_refused s so_far lane call.Abort op.Abort refl refl refl refl (λ q. refl) (ap is_fine (sym is) ∙ g);
+      ends = λ lane e g. let is = told (Line lane op.End) e in is ∙ beside_refused s so_far lane call.End op.End refl refl refl refl (λ q. refl) (ap is_fine (sym is) ∙ g);
+    }

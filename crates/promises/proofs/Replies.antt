@@ -1,13 +1,11 @@
 -- Replies tell what stands.
-use Rattle.promises.proofs.Words.{range_with_len, Mark, Clean, Image, AreLater, AreInTime, content, point_in, sets_of, is_among, Op, Read, ImageDigest, ImageBlock, Query, Plan, blocks_of, Line}
-use Rattle.promises.proofs.Words.{BlockOf, BlocksOf, State, SetRow, Kept, history_of, is_kept_set, kept, kept_of, kept_image, image_block, image_blocks, line}
-use Rattle.promises.proofs.Words.{Act, happens, reply, state, ReadsAsAtTheCut, reads_as_at_cut, block_now, images_in_time, IsBelow, AreRising, TellsTheCut, RepliesTell}
-use Rattle.write_history.specs.declared.mark.Mark.TheVariants.{Fault}
-use Rattle.vss_model.specs.Reply.{Faulted}
 use Rattle.std.proofs.Common.{◌≡◌, ◌∙◌, ℕ, ◌==◌, List, [], ◌∷◌, Option, Some, None, refl, Bool, true, false, ap, sym, map, filter, arith}
 use Rattle.std.specs.Prelude.{◌&&◌, ◌||◌, is_some, if◌then◌else◌}
+use Rattle.promises.proofs.Words.{range_with_len, Mark, Clean, Image, AreLater, AreInTime, content, point_in, sets_of, is_among, Op, Read, ImageDigest}
+use Rattle.promises.proofs.Words.{ImageBlock, Query, Plan, blocks_of, Line, BlockOf, BlocksOf, State, SetRow, Kept, history_of, is_kept_set, kept, kept_of}
+use Rattle.promises.proofs.Words.{kept_image, image_block, image_blocks, line, Act, happens, reply_is, reply, state, ReadsAsAtTheCut, reads_as_at_cut}
+use Rattle.promises.proofs.Words.{block_now, images_in_time, IsBelow, AreRising, TellsTheCut, RepliesTell, Fault, Faulted, number_is}
 use Rattle.promises.proofs.Participants.{off}
-use Rattle.scenario.proofs.Places.{number_is}
 
 -- ## the point of a kept image
 
@@ -68,7 +66,7 @@ module _ (s : Plan) (so_far : List Act) (act : Act) where
   st = state s so_far
 
   told : (lane : ℕ) (op : Op) (mark : Mark) → act.event ≡ Line lane op → act.mark ≡ mark → reply s st act ≡ (line s lane op mark st).0
-  told lane op mark e f = ap (λ x. (happens s x act.mark st).0) e ∙ ap (λ m. (line s lane op m st).0) f
+  told lane op mark e f = reply_is s st act ∙ ap (λ x. (happens s x act.mark st).0) e ∙ ap (λ m. (line s lane op m st).0) f
 
   block_told : (lane n v b : ℕ) (o : Option Kept) → kept_image st n v ≡ o → is_some o ≡ true → act.event ≡ Line lane (ImageBlock n v b) → act.mark ≡ Clean
       → TellsTheCut s so_far n (reply s st act) (λ before. BlockOf v (block_now (state s before) v b))

@@ -1,8 +1,7 @@
 -- What stands in a block after some blocks were brought back.
-use Rattle.promises.proofs.Words.{take-length, Write, last_bytes, content, restoring, is_among}
 use Rattle.std.proofs.Common.{◌≡◌, ◌∙◌, ℕ, ◌==◌, List, [], ◌∷◌, ◌++◌, refl, Bool, true, false, ap, map, length, arith}
 use Rattle.std.specs.Prelude.{◌||◌, if◌then◌else◌}
-use Rattle.scenario.proofs.Places.{number_is}
+use Rattle.promises.proofs.Words.{take-length, Write, last_bytes, content, restoring, is_among, number_is}
 
 last_append : (b : ℕ) (before : List ℕ) (ws us : List Write) → last_bytes b before (ws ++ us) ≡ last_bytes b (last_bytes b before ws) us
 last_append b before [] us = refl

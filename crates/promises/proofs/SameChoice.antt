@@ -1,14 +1,14 @@
 -- What keeps the choice of writers: answers, steps, ticks, failures and agendas change neither who takes part, nor which classes are
 -- disabled, nor what is named, nor whether the session takes all; and each writer keeps a row.
-use Rattle.promises.proofs.Words.{Order, VssResult, Mark, Write, Said, row_after, row_aborted, Group}
-use Rattle.promises.proofs.Words.{Kind, Member, Agenda, is_among, open_group, IsKeptFrom, from_settled, from_begun, from_answered, from_timed, Mode, Session}
-use Rattle.promises.proofs.Words.{Plan, State, SetRow, Kept, in_progress, left_now, length-rows_where}
 use Rattle.std.proofs.Common.{◌≡◌, ℕ, ◌+◌, List, [], Option, Some, refl, Bool, true, false, length, arith}
 use Rattle.std.specs.Prelude.{option_map}
-use Rattle.set_agenda.specs.Course.{Course, is_member, posted, failed as course_failed, begun, told, answered as course_answered, worked, stepped as course_stepped, timed as course_timed}
-use Rattle.vss_model.specs.Ending.{Ending, concluded, followed, runs, failed_in}
-use Rattle.vss_model.specs.Images.{cleared, set_loses_image, with_room_if, put, write, reverted_as}
-use Rattle.vss_model.specs.Steps.{answered, step_made, is_flush, is_failed_step, stepped_as, stepped, ticked, later}
+use Rattle.promises.proofs.Words.{Order, VssResult, Mark, Write, Said, row_after, row_aborted, Group, Kind, Member, Agenda, is_among, open_group, IsKeptFrom}
+use Rattle.promises.proofs.Words.{from_settled, from_begun, from_answered, from_timed, Mode, Session, Plan, State, SetRow, Kept, in_progress, left_now}
+use Rattle.promises.proofs.Words.{length-rows_where, Course, is_member, posted, begun, told, answered as course_answered, worked, stepped as course_stepped}
+use Rattle.promises.proofs.Words.{timed as course_timed, Ending, runs, concluded, followed, failed_in, cleared, with_room_if, put, write, reverted_as}
+use Rattle.promises.proofs.Words.{step_made, stepped_as, ticked, later, set_loses_image, is_flush, is_failed_step}
+use Rattle.set_agenda.specs.Course.{failed as course_failed}
+use Rattle.vss_model.proofs.StateForm.{answered, stepped}
 
 -- ## the course
 

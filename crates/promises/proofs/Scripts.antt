@@ -1,31 +1,24 @@
 -- A writer answers by its script: how often it was asked, as the acts tell it, is how many groups of that order have opened for it.
-use Rattle.promises.proofs.Words.{list_any, sum_by-append, Level, Order, VssResult, AsyncCancelled, SetOutcome, Said, row_gathered, Mark, Writer, Move}
-use Rattle.promises.proofs.Words.{Scripted, answer_in, is_row_for, scripted_answer, Group, Orders, PreCommit, Flush, Hold, Cut, Commit, Release, PostCommit}
-use Rattle.promises.proofs.Words.{Kind}
-use Rattle.promises.proofs.Words.{Member, Place, Running as RunningLimit, spent_of, Plan, script_of, Event, State, runs}
-use Rattle.promises.proofs.Words.{Act, order_of_writer, after, state, acts, acts_if, answer_event, script_event, state-run, acts-append, Settles, said_stays}
-use Rattle.promises.proofs.Words.{among_filter, is_owed, is_asked_anew, asked_from, times_asked, written_in, AnswersByScript, Deed}
-use Rattle.promises.proofs.Words.{append_nothing, and-false, none_runs}
 use Rattle.std.proofs.Common.{◌≡◌, ◌∙◌, ℕ, ◌+◌, ◌==◌, List, [], ◌∷◌, ◌++◌, Option, Some, None, refl, Bool, true, false, ap, sym, subst, inl, inr, map, filter, find, fold, arith}
 use Rattle.std.specs.Prelude.{◌&&◌, ◌||◌, not, is_some, count_by, if◌then◌else◌}
-use Rattle.std.proofs.lemmas.Bool.{and_from, and_parts, or_left, or_right}
+use Rattle.promises.proofs.Words.{list_any, sum_by-append, Level, Order, VssResult, AsyncCancelled, SetOutcome, Said, row_gathered, Mark, Writer, Move}
+use Rattle.promises.proofs.Words.{Scripted, answer_in, is_row_for, scripted_answer, Group, Orders, PreCommit, Flush, Hold, Cut, Commit, Release, PostCommit}
+use Rattle.promises.proofs.Words.{Kind, Member, Place, Running as RunningLimit, spent_of, Plan, script_of, Event, State, runs, Act, order_of_writer, after}
+use Rattle.promises.proofs.Words.{state, acts, acts_if, answer_event, script_event, state-run, acts-append, Settles, said_stays, among_filter, is_owed}
+use Rattle.promises.proofs.Words.{is_asked_anew, asked_from, times_asked, written_in, AnswersByScript, Deed, append_nothing, and-false, none_runs, and_from}
+use Rattle.promises.proofs.Words.{and_parts, or_left, or_right, Agenda, Open, places, group_code, same_order, same_place, order_of, is_orders, members_of}
+use Rattle.promises.proofs.Words.{waited_for, with_group, left_from, groups_left, left, open_place, waits_now, is_among, order_if, open_order, is_working}
+use Rattle.promises.proofs.Words.{is_done, all_say, OrderGroup, Course, group_of_orders, opens, posted, sent, settled, begun, told, answered_to}
+use Rattle.promises.proofs.Words.{answered as course_answered, worked, stepped as course_stepped, limits_now, lost_to, treated, timed as course_timed, released}
+use Rattle.promises.proofs.Words.{closed, Change, CourseIs, apply, CourseCall, Answers, Steps, Times, Gathers, Prepares, Snapshots, Completes, Disables}
+use Rattle.promises.proofs.Words.{Releases, IsDue, Comes, by_changes, number_is, failed_agenda, filter_passes}
 use Rattle.set_agenda.specs.declared.kind.Kind.TheVariants as kind
-use Rattle.set_agenda.specs.Agenda.{Agenda, Open, places, group_code, same_order, same_place, order_of, is_orders, members_of, waited_for, with_group}
-use Rattle.set_agenda.specs.Agenda.{left_from, groups_left, left, open_place, waits_now, is_among, order_if, open_order, is_working, is_done}
-use Rattle.set_agenda.specs.Agenda.{all_say}
-use Rattle.set_agenda.specs.Course.{OrderGroup, Course, group_of_orders, opens, posted, sent, failed as course_failed, settled, begun, told, answered_to}
-use Rattle.set_agenda.specs.Course.{answered as course_answered, worked, stepped_as as course_stepped_as, stepped as course_stepped, limits_now, lost_to}
-use Rattle.set_agenda.specs.Course.{treated, timed as course_timed, released}
-use Rattle.vss_model.specs.Sessions.{closed}
+use Rattle.set_agenda.specs.Course.{failed as course_failed, stepped_as as course_stepped_as}
 use Rattle.promises.proofs.Truth.{not_itself, same_number}
-use Rattle.vss_model.specs.Changes.{Change, CourseIs, apply}
-use Rattle.vss_model.proofs.Changes.{CourseCall, Answers, Steps, Times, Gathers, Prepares, Snapshots, Completes, Disables, Fails, Releases, called, IsDue}
-use Rattle.vss_model.proofs.Changes.{Comes, by_changes}
+use Rattle.vss_model.proofs.Changes.{Fails, called}
 use Rattle.promises.proofs.Heard.{same_group}
 use Rattle.promises.proofs.Speaks.{Grows, grows_answered, grows_stepped, grows_timed}
 use Rattle.promises.proofs.Stages.{failed_stays, closed_stays, grown}
-use Rattle.scenario.proofs.Places.{number_is}
-use Rattle.vss_model.proofs.Gathered.{failed_agenda, filter_passes}
 
 -- ## who waits at a place does not begin to wait there
 

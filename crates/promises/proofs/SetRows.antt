@@ -1,17 +1,12 @@
 -- The rows of sets go on: no act loses one, and one that is over stays as it is.
-use Rattle.scenario.proofs.Places.{number_is}
-use Rattle.std.proofs.lemmas.Bool.{or_left}
-use Rattle.promises.proofs.Words.{append_assoc, list_any-append, SetOutcome, Mark, Plan, Event, State, SetRow, is_running, in_progress, row_changed}
-use Rattle.promises.proofs.Words.{NumberedFrom, Act, after, state, state-append, orderly, found_above, IsLaterRow, HasLaterRow, KeepsRows, some_same}
-use Rattle.promises.proofs.Words.{append_nothing}
 use Rattle.std.proofs.Common.{◌≡◌, ◌∙◌, ℕ, ◌+◌, ◌==◌, ◌<◌, ◌≤◌, List, [], ◌∷◌, ◌++◌, Some, refl, Bool, true, false, ap, sym, subst, map, find, arith}
 use Rattle.std.specs.Prelude.{if◌then◌else◌}
-use Rattle.vss_model.specs.Ending.{row_settled}
-use Rattle.vss_model.specs.Sessions.{with_volume}
-use Rattle.vss_model.specs.Steps.{with_cut, later}
+use Rattle.promises.proofs.Words.{number_is, or_left, append_assoc, list_any-append, SetOutcome, Mark, Plan, Event, State, SetRow, is_running, in_progress}
+use Rattle.promises.proofs.Words.{row_changed, NumberedFrom, Act, after, state, state-append, orderly, found_above, IsLaterRow, HasLaterRow, KeepsRows}
+use Rattle.promises.proofs.Words.{some_same, append_nothing, row_settled, with_volume, with_cut, later, Change, StartsSet, AddsVolume, IsCutAt, apply, Comes}
+use Rattle.promises.proofs.Words.{by_changes}
 use Rattle.promises.proofs.Members.{still_less}
-use Rattle.vss_model.specs.Changes.{Change, StartsSet, AddsVolume, IsCutAt, Settles, apply}
-use Rattle.vss_model.proofs.Changes.{Comes, by_changes}
+use Rattle.vss_model.specs.Changes.{Settles}
 
 -- ## one row
 

@@ -1,17 +1,12 @@
 -- No volume is twice in a set.
-use Rattle.promises.proofs.Words.{list_any-append, SetOutcome, VssResult, Mark, is_among, are_distinct, Plan, Event, State, SetRow, in_progress, row_changed}
-use Rattle.promises.proofs.Words.{NumberedFrom, Act, after, state, state-append, orderly, row_running, VolumesAreDistinct, some_same, other_way}
 use Rattle.std.proofs.Common.{◌≡◌, ◌∙◌, ℕ, ◌+◌, ◌==◌, ◌<◌, List, [], ◌∷◌, ◌++◌, Some, None, refl, Bool, true, false, ap, sym, subst, map, find, fold, arith}
-use Rattle.std.proofs.lemmas.Bool.{and_from, and_parts, or_parts}
-use Rattle.set_agenda.proofs.WriterSets.{or-false}
 use Rattle.std.specs.Prelude.{◌||◌, not, if◌then◌else◌}
-use Rattle.vss_model.specs.Ending.{row_settled}
-use Rattle.vss_model.specs.Sessions.{with_volume, add_refusal}
-use Rattle.vss_model.specs.Steps.{row_cut}
+use Rattle.promises.proofs.Words.{list_any-append, SetOutcome, VssResult, Mark, is_among, are_distinct, Plan, Event, State, SetRow, in_progress, row_changed}
+use Rattle.promises.proofs.Words.{NumberedFrom, Act, after, state, state-append, orderly, row_running, VolumesAreDistinct, some_same, other_way, and_from}
+use Rattle.promises.proofs.Words.{and_parts, or_parts, or-false, row_settled, with_volume, add_refusal, row_cut, Change, StartsSet, AddsVolume, IsCutAt, apply}
+use Rattle.promises.proofs.Words.{IsAdd, Comes, by_changes, volumes_cut}
 use Rattle.promises.proofs.Members.{still_less}
-use Rattle.vss_model.specs.Changes.{Change, StartsSet, AddsVolume, IsCutAt, Settles, apply}
-use Rattle.vss_model.proofs.Changes.{IsAdd, Comes, by_changes}
-use Rattle.vss_model.proofs.FewTurns.{volumes_cut}
+use Rattle.vss_model.specs.Changes.{Settles}
 
 abbrev AllDistinct : List SetRow → Type 0
 AllDistinct [] = Unit {0}

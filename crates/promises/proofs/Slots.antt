@@ -1,23 +1,22 @@
 -- Images never use more slots than their group has: of each change of the volumes, that it leaves it so.
-use Rattle.promises.proofs.Words.{slice_get_within, get_or_from_slice_get, slice_get-map, VssResult, InsufficientStorage, AsyncCancelled, Said, Mark, Clean, Fault, FaultAfter, Write, Image, History}
-use Rattle.promises.proofs.Words.{fresh, point_in, written, reverted, reverted_in_part, AreInTime, Placed, Copy, named, copy_of, copies_of, copies_from, group_used, used, needs_slot, said_of, Group}
-use Rattle.promises.proofs.Words.{Cut, open_group, Session, VolumeRow, IsPlan, group_slots, Plan, slots_in, slots_of, placed, placed_in}
-use Rattle.promises.proofs.Words.{group_of, blocks_of, Event, State, SetRow, Kept, in_progress, left_now, kept_image, Act, enabled, idle_now, after, state, state-append, UpTo}
-use Rattle.promises.proofs.Words.{images_up_to, kept_point, row_number, images_in_time, orderly, at, as_many_change, within, SlotsSuffice, Covers, covered, after_enabled, after_not_enabled}
 use Rattle.std.proofs.Common.{◌≡◌, ◌∙◌, ℕ, ◌+◌, ◌==◌, ◌≤◌, ◌<◌, suc, List, [], ◌∷◌, ◌++◌, Option, Some, None, refl, Bool, true, false, ap, sym, subst, map, fold, length, arith}
 use Rattle.std.specs.Prelude.{if◌then◌else◌, slice_get, option_map}
-use Rattle.set_agenda.specs.Course.{Course, answered as course_answered, timed as course_timed, change_at}
-use Rattle.vss_model.specs.Ending.{Ending, SetFails, ending, concluded, followed, runs, failed_in, failed}
-use Rattle.vss_model.specs.Images.{Replied, going_up_to, cleared, set_loses_image, with_room_if, put, write, reverted_as}
-use Rattle.vss_model.specs.Sessions.{has_no_volume, closed}
-use Rattle.vss_model.specs.Steps.{answered, cut_set, step_made, is_flush, is_failed_step, stepped_as, stepped, ticked, later}
+use Rattle.promises.proofs.Words.{slice_get_within, get_or_from_slice_get, slice_get-map, VssResult, InsufficientStorage, AsyncCancelled, Said, Mark, Clean}
+use Rattle.promises.proofs.Words.{Fault, FaultAfter, Write, Image, History, fresh, point_in, written, reverted, reverted_in_part, AreInTime, Placed, Copy}
+use Rattle.promises.proofs.Words.{named, copy_of, copies_of, copies_from, group_used, used, needs_slot, said_of, Group, Cut, open_group, Session, VolumeRow}
+use Rattle.promises.proofs.Words.{IsPlan, group_slots, Plan, slots_in, slots_of, placed, placed_in, group_of, blocks_of, Event, State, SetRow, Kept}
+use Rattle.promises.proofs.Words.{in_progress, left_now, kept_image, Act, enabled, idle_now, after, state, state-append, UpTo, images_up_to, kept_point}
+use Rattle.promises.proofs.Words.{row_number, images_in_time, orderly, at, as_many_change, within, SlotsSuffice, Covers, covered, after_enabled}
+use Rattle.promises.proofs.Words.{after_not_enabled, Course, answered as course_answered, timed as course_timed, change_at, Ending, SetFails, ending, runs}
+use Rattle.promises.proofs.Words.{concluded, followed, failed_in, failed, Replied, cleared, with_room_if, put, write, reverted_as, closed, cut_set, step_made}
+use Rattle.promises.proofs.Words.{stepped_as, ticked, later, going_up_to, set_loses_image, has_no_volume, is_flush, is_failed_step, number_is}
+use Rattle.vss_model.proofs.StateForm.{answered, stepped}
 use Rattle.promises.proofs.Truth.{chain, same_number}
 use Rattle.promises.proofs.GroupUsed.{group_less, group_other, group_more, changed_uses, enough_goes, one_left}
 use Rattle.promises.proofs.Shrinks.{InTime, used_in, LessIn, less_in_same, less_in_over, less_in_map, less_in_change, less_in_gone, less_images_dropped}
 use Rattle.promises.proofs.Shrinks.{less_released, UsesNoMore, uses_less, uses_over, uses_cut}
 use Rattle.promises.proofs.Used.{rising, one_if, written_used, reverted_used, restored_used}
 use Rattle.promises.proofs.Orders.{smaller}
-use Rattle.scenario.proofs.Places.{number_is}
 
 -- ## the groups of a plan
 

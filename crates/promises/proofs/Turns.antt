@@ -1,21 +1,21 @@
 -- What an act makes of a session: its set fails, its agenda ends, or it stays as it is.
-use Rattle.promises.proofs.Words.{SetOutcome, VssResult, AsyncCancelled, Said, Mark, Write, Group, Agenda, open_group, is_working, Session, makes_set}
-use Rattle.promises.proofs.Words.{agenda_ended, set_failed, Plan, State, SetRow, Kept, is_running, in_progress, left_now, change_set, with_volume, IsOfSession, has_failed, Act, state}
-use Rattle.promises.proofs.Words.{outcome_is_running, course-step_made, MovesOn, moves_answered, moves_stepped, moves_timed, orderly, running_found, row_running, row_settles, result-settled}
-use Rattle.promises.proofs.Words.{failure_of, failure_in, set_failure}
 use Rattle.std.proofs.Common.{◌≡◌, ◌∙◌, ℕ, List, ◌⊎◌, Option, Some, None, refl, Bool, true, false, ap, subst, inl, inr, map, arith}
 use Rattle.std.specs.Prelude.{is_some, option_map}
-use Rattle.vss_names.specs.declared.set_outcome.SetOutcome.TheVariants.{Running as RunningSet, Complete as CompleteSet, Failed as FailedSet}
-use Rattle.set_agenda.specs.Course.{Course, failed as course_failed, stepped as course_stepped}
-use Rattle.vss_model.specs.Ending.{AgendaEnds, SetFails, ending, row_settled, concluded, followed, runs, failed_in, failed}
-use Rattle.vss_model.specs.Images.{cleared, set_loses_image, with_room_if, put, write, reverted_as}
-use Rattle.vss_model.specs.Steps.{answered, step_made, is_flush, is_failed_step, stepped_as, stepped, ticked}
+use Rattle.promises.proofs.Words.{SetOutcome, VssResult, AsyncCancelled, Said, Mark, Write, Group, Agenda, open_group, is_working, Session, makes_set}
+use Rattle.promises.proofs.Words.{agenda_ended, set_failed, Plan, State, SetRow, Kept, is_running, in_progress, left_now, change_set, with_volume, IsOfSession}
+use Rattle.promises.proofs.Words.{has_failed, Act, state, outcome_is_running, course-step_made, MovesOn, moves_answered, moves_stepped, moves_timed, orderly}
+use Rattle.promises.proofs.Words.{running_found, row_running, row_settles, result-settled, failure_of, failure_in, set_failure, Failed as FailedSet, Course}
+use Rattle.promises.proofs.Words.{stepped as course_stepped, AgendaEnds, SetFails, ending, row_settled, runs, concluded, followed, failed_in, failed, cleared}
+use Rattle.promises.proofs.Words.{with_room_if, put, write, reverted_as, step_made, stepped_as, ticked, set_loses_image, is_flush, is_failed_step}
+use Rattle.promises.proofs.Words.{true_not_false}
+use Rattle.vss_names.specs.declared.set_outcome.SetOutcome.TheVariants.{Running as RunningSet, Complete as CompleteSet}
+use Rattle.set_agenda.specs.Course.{failed as course_failed}
+use Rattle.vss_model.proofs.StateForm.{answered, stepped}
 use Rattle.promises.proofs.BusyAgendas.{IsBusy, busy_set, busy_step}
 use Rattle.promises.proofs.CalmCourses.{CalmOrBusy, calm_answered, calm_stepped, calm_timed}
 use Rattle.promises.proofs.Contexts.{settled_number, changed_number}
 use Rattle.promises.proofs.GoneImages.{none_stepped}
 use Rattle.promises.proofs.SetFailures.{failure_at, failure_map, running_calm, settled_calm, changed_result, failures_made}
-use Rattle.vss_model.proofs.Orderly.{true_not_false}
 use Rattle.promises.proofs.SameChoice.{session_made}
 
 -- the set in progress fails, and the session with it

@@ -1,8 +1,7 @@
 -- No order is open for more than the answer limit.
-use Rattle.promises.proofs.Words.{Group, Agenda, Open, answer_runs, running_at, spent_of, freeze_limit, Plan, Act, state, true_not_false, informs_writers}
-use Rattle.promises.proofs.Words.{is_overdue_at, is_overdue_in, OrdersEnd, answer_since}
 use Rattle.std.proofs.Common.{◌≡◌, ℕ, List, Option, None, true, false, arith}
-use Rattle.std.proofs.lemmas.Bool.{and_parts, false_from_ne_true}
+use Rattle.promises.proofs.Words.{Group, Agenda, Open, answer_runs, running_at, spent_of, freeze_limit, Plan, Act, state, true_not_false, informs_writers}
+use Rattle.promises.proofs.Words.{is_overdue_at, is_overdue_in, OrdersEnd, answer_since, and_parts, false_from_ne_true}
 use Rattle.vss_model.proofs.LogRule.{Running}
 use Rattle.promises.proofs.Limits.{passed_spent}
 use Rattle.promises.proofs.NotSpent.{none_second, is_unspent}

@@ -1,14 +1,12 @@
 -- How many slots the images of a volume use: where images go, no more; where one is cut, as many; where a write comes, at most one
 -- more, and that where it needs a slot; where the volume is reverted, no more.
-use Rattle.promises.proofs.Words.{take-add, drop-nil, drop-append-le, take-append-drop, drop_all, take_all, length-drop, list_any-append, Write, Image, point_in, up_to_set, AreLater, AreInTime, names}
-use Rattle.promises.proofs.Words.{blocks_named, to_restore, restoring, writes_since, used, needs_slot, some_same}
 use Rattle.std.proofs.Common.{◌≡◌, ◌∙◌, ℕ, ◌+◌, ◌-◌, ◌==◌, ◌≤◌, ◌<◌, zero, suc, List, [], ◌∷◌, ◌++◌, Some, refl, Bool, true, false, ap, sym, subst, map, filter, length, take, drop, arith}
 use Rattle.std.specs.Prelude.{not, nat_lt, if◌then◌else◌, slice_range}
-use Rattle.std.proofs.lemmas.Bool.{or_cases}
+use Rattle.promises.proofs.Words.{take-add, drop-nil, drop-append-le, take-append-drop, drop_all, take_all, length-drop, list_any-append, Write, Image}
+use Rattle.promises.proofs.Words.{point_in, up_to_set, AreLater, AreInTime, names, blocks_named, to_restore, restoring, writes_since, used, needs_slot}
+use Rattle.promises.proofs.Words.{some_same, or_cases, unless, true_not_false}
 use Rattle.promises.proofs.Truth.{chain, no_less}
 use Rattle.promises.proofs.Named.{NameNoMore, named_no_more, named_in_parts, named_by_none, named_by_one, inner_no_more, later_no_more, since_later, inner_append, restored_no_more}
-use Rattle.set_agenda.proofs.Closings.{unless}
-use Rattle.vss_model.proofs.Orderly.{true_not_false}
 
 -- ## points that rise
 

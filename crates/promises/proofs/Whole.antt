@@ -1,12 +1,15 @@
 -- A set that completes has come the whole way: what its agenda's log keeps in order, and that nothing of it is left out.
-use Rattle.promises.proofs.Words.{list_any, list_any-append, Order, PrepareSnapshot, Freeze, Thaw, PostSnapshot, Said, is_ok, Group, Orders, PreCommit, Flush, Hold, Cut, Commit, Release, PostCommit}
-use Rattle.promises.proofs.Words.{Snapshot, Member, Place, is_member, fails_set, Plan, in_progress, Act, state, said_stays, IsOf, Tied, tied, true_not_false, waits_members}
 use Rattle.std.proofs.Common.{◌≡◌, ◌∙◌, ℕ, ◌==◌, ◌≤◌, List, [], ◌∷◌, ◌++◌, ◌⊎◌, Option, Some, None, refl, Bool, true, false, ap, sym, subst, inl, inr, map, arith}
 use Rattle.std.specs.Prelude.{◌&&◌, ◌||◌, not, is_some}
-use Rattle.std.proofs.lemmas.Bool.{and_from, false_from_ne_true, or_left, or_right}
-use Rattle.set_agenda.specs.Agenda.{Agenda, Entry, Open, plain, places, group_code, level_code, same_place, order_of, is_orders, has_failed, has_said}
-use Rattle.set_agenda.specs.Agenda.{writers_at, members_of, waited_for, left_from, groups_left, open_place, is_among, waits_now, is_done, at_place, all_say}
-use Rattle.promises.specs.Way.{Deed, level_of, stage, Rising, is_heard, is_agreed, is_made, is_again, AreOnce, is_failure, heard, agreed, failed, made, IsWholeWay, CompletesByTheWay, Spoke}
+use Rattle.promises.proofs.Words.{list_any, list_any-append, Order, PrepareSnapshot, Freeze, Thaw, PostSnapshot, Said, is_ok, Group, Orders, PreCommit, Flush}
+use Rattle.promises.proofs.Words.{Hold, Cut, Commit, Release, PostCommit, Snapshot, Member, Place, is_member, fails_set, Plan, in_progress, Act, state}
+use Rattle.promises.proofs.Words.{said_stays, IsOf, Tied, tied, true_not_false, waits_members, and_from, false_from_ne_true, or_left, or_right, Agenda, Entry}
+use Rattle.promises.proofs.Words.{Open, plain, places, group_code, level_code, same_place, order_of, is_orders, has_said, writers_at, members_of, waited_for}
+use Rattle.promises.proofs.Words.{left_from, groups_left, open_place, is_among, waits_now, is_done, at_place, all_say, Deed, level_of, stage, Rising, is_heard}
+use Rattle.promises.proofs.Words.{is_agreed, is_made, is_again, AreOnce, is_failure, heard, agreed, made, IsWholeWay, CompletesByTheWay, Spoke, number_is}
+use Rattle.promises.proofs.Words.{unless, all_said, either_way, filter_passes}
+use Rattle.set_agenda.specs.Agenda.{has_failed}
+use Rattle.promises.specs.Way.{failed}
 use Rattle.promises.proofs.Truth.{same_number}
 use Rattle.promises.proofs.Along.{IsKeptAlong, last_stand}
 use Rattle.promises.proofs.Levels.{Ascends, MembersOf, levels_are, members_ascend}
@@ -17,11 +20,6 @@ use Rattle.promises.proofs.Heard.{said_deed, place_of, volume_number, Good, good
 use Rattle.promises.proofs.Once.{once_one, Apart, once_spoken, waits_apart, none_given, open_unleveled, level_some, is_order_place}
 use Rattle.promises.proofs.Orders.{agreed_at, post_group, heard_group, heard_agreed, all_among, heard_at, prepare_heard, freeze_heard, thaw_heard, of_group_level, levels_given, open_leveled}
 use Rattle.promises.proofs.Scripts.{kept_among}
-use Rattle.scenario.proofs.Places.{number_is}
-use Rattle.set_agenda.proofs.Closings.{unless}
-use Rattle.vss_model.proofs.AtCut.{all_said}
-use Rattle.vss_model.proofs.CutLog.{either_way}
-use Rattle.vss_model.proofs.Gathered.{filter_passes}
 
 -- ## one more is said
 

@@ -1,21 +1,20 @@
 -- No limit that would fail the set is outrun as the clock stands.
-use Rattle.promises.proofs.Words.{Order, VssResult, AsyncCancelled, Said, Ok, Lost, WriterRow, is_ok, row_after, default_freeze, Mark, Write, said_of, Group}
-use Rattle.promises.proofs.Words.{Kind, Limit, Member, Agenda, Open, order_of, is_orders, groups_left, left, open_group, waits_now, order_now, is_among, open_order}
-use Rattle.promises.proofs.Words.{is_working, next_member, all_say, Running as RunningLimit, answer_runs, running_at, running_limits, spent_of, none_and_some}
-use Rattle.promises.proofs.Words.{spent_here, Session, Plan, Event, State, SetRow, Kept, start, in_progress, left_now, Act, enabled, idle_now, after, state, is_late_in, asked_if}
-use Rattle.promises.proofs.Words.{asked_waits, StandsWithinLimits, Covers, covered, after_enabled, after_not_enabled, by_if}
 use Rattle.std.proofs.Common.{◌≡◌, ◌∙◌, ℕ, ◌+◌, zero, suc, List, [], ◌∷◌, Option, Some, None, refl, Bool, true, false, ap, sym, subst, fold, min, arith}
 use Rattle.std.specs.Prelude.{◌&&◌, not, option_map, slice_get}
-use Rattle.std.proofs.lemmas.Bool.{false_from_ne_true}
-use Rattle.set_agenda.specs.declared.limit.Limit.TheVariants.{Hold as HoldLimit, Freeze as FreezeLimit, Answer as AnswerLimit}
-use Rattle.set_agenda.specs.Course.{Course, posted, failed as course_failed, rows_where, row_if, limit_of, freeze_limit, limits_now, settled_if, settled_in}
-use Rattle.set_agenda.specs.Course.{settled, begun, told, is_decisive, decided, answered_to, answered as course_answered, worked, stepped as course_stepped}
-use Rattle.set_agenda.specs.Course.{lost_to, lost, fails_set, lost_decided, treated_as, treated, timed as course_timed, released}
-use Rattle.vss_model.specs.Ending.{Ending, ending, concluded, followed, runs, failed_in, failed}
-use Rattle.vss_model.specs.Images.{Replied, with_room_if, put, write, reverted_as}
-use Rattle.vss_model.specs.Sessions.{has_no_volume, closed}
-use Rattle.vss_model.specs.Steps.{answered, step_made, is_flush, is_failed_step, stepped_as, stepped, ticked}
-use Rattle.vss_model.proofs.LogRule.{Running, unspoken}
+use Rattle.promises.proofs.Words.{Order, VssResult, AsyncCancelled, Said, Ok, Lost, WriterRow, is_ok, row_after, default_freeze, Mark, Write, said_of, Group}
+use Rattle.promises.proofs.Words.{Kind, Limit, Member, Agenda, Open, order_of, is_orders, groups_left, left, open_group, waits_now, order_now, is_among}
+use Rattle.promises.proofs.Words.{open_order, is_working, next_member, all_say, Running as RunningLimit, answer_runs, running_at, running_limits, spent_of}
+use Rattle.promises.proofs.Words.{none_and_some, spent_here, Session, Plan, Event, State, SetRow, Kept, start, in_progress, left_now, Act, enabled, idle_now}
+use Rattle.promises.proofs.Words.{after, state, is_late_in, asked_if, asked_waits, StandsWithinLimits, Covers, covered, after_enabled, after_not_enabled, by_if}
+use Rattle.promises.proofs.Words.{false_from_ne_true, Answer as AnswerLimit, Course, posted, rows_where, row_if, limit_of, freeze_limit, limits_now, settled_if}
+use Rattle.promises.proofs.Words.{settled_in, settled, begun, told, is_decisive, decided, answered_to, answered as course_answered, worked}
+use Rattle.promises.proofs.Words.{stepped as course_stepped, lost_to, lost, fails_set, lost_decided, treated_as, treated, timed as course_timed, released}
+use Rattle.promises.proofs.Words.{Ending, ending, runs, concluded, followed, failed_in, failed, Replied, with_room_if, put, write, reverted_as, closed}
+use Rattle.promises.proofs.Words.{step_made, stepped_as, ticked, has_no_volume, is_flush, is_failed_step, unspoken, head_waits}
+use Rattle.set_agenda.specs.declared.limit.Limit.TheVariants.{Hold as HoldLimit, Freeze as FreezeLimit}
+use Rattle.set_agenda.specs.Course.{failed as course_failed}
+use Rattle.vss_model.proofs.StateForm.{answered, stepped}
+use Rattle.vss_model.proofs.LogRule.{Running}
 use Rattle.promises.proofs.Clock.{clock-made}
 use Rattle.promises.proofs.Limits.{is_due_in, due_in, spent_runs}
 use Rattle.promises.proofs.Speaks.{Speaks, now_group}
@@ -23,7 +22,6 @@ use Rattle.promises.proofs.Times.{late_is_due}
 use Rattle.promises.proofs.NotSpent.{at_once, none_both, unspent_if, is_mild, mild_order}
 use Rattle.promises.proofs.AllLost.{lost_in_time}
 use Rattle.promises.proofs.OneMore.{Ordered, Unspent, InTime, said_in_time}
-use Rattle.vss_model.proofs.CourseCalls.{head_waits}
 
 -- ## the course
 

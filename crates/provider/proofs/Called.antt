@@ -3,14 +3,14 @@ use Rattle.std.proofs.Common.{◌≡◌, ℕ, zero, suc, ◌<◌, List, [], ◌�
 use Rattle.std.specs.Prelude.{Result, Ok, Err, OnOk, IfErr}
 use Rattle.std.proofs.lemmas.List.{length-map}
 use Rattle.vss_model.specs.Words.{History, Image, Plan, Write, blocks_of, change_at, cut, dropped, point_in, reverted, reverted_in_part, sets_of, to_restore, written}
-use Rattle.provider.specs.Words.{Area, Cause, DeviceRose, Fault, Ghosts, GroupValue, HasCauseAt, HasImageCause as HasGroupImageCause, ImageFault, IsPutOr, IsRevert as IsGroupRevert}
-use Rattle.provider.specs.Words.{IsUnfailed, IsUnseen, NoSuchBlock, RevertFault, StandsFor, Volume, VolumeRose, blocks_at, changed_at, history_at as group_history_at, is_among, sets_at}
+use Rattle.provider.specs.Words.{Area, Cause, DeviceRose, Fault, Ghosts, GroupValue, HasImageCause as HasGroupImageCause, ImageFault, IsPutOr, IsRevert as IsGroupRevert}
+use Rattle.provider.specs.Words.{IsUnfailed, IsUnseen, NoSuchBlock, RevertFault, StandsFor, Volume, VolumeRose, blocks_at, changed_at, history_at as group_history_at, is_there, sets_at}
 use Rattle.provider.proofs.Words.{AreGroups, AreKept, CanCutOn, HasCause, HasDigestCause, HasImageCause, IsCallOn, IsCutOn, IsDropped, IsGroupDrop, IsKeptGroup, IsPut, IsQuiet, IsQuietGroup, IsRevert}
 use Rattle.provider.proofs.Words.{LastsAt, ProviderValue, RoseAlone, counts_of, devices_of, fault_of, history_at, quiet_stands, slice_get-set_other, slice_set-same, volume_place}
 use Rattle.cow_volume.specs.declared.image_fault.ImageFault.TheVariants as image
 use Rattle.cow_volume.specs.declared.revert_fault.RevertFault.TheVariants.{NoSuchImage as NoImage}
 use Rattle.provider.proofs.Becoming.{changes, stays}
-use Rattle.provider.proofs.Found.{Found, blocks_here, device_is, history_here, image_of, own, sets_here, stands_here}
+use Rattle.provider.proofs.Found.{Found, blocks_here, device_is, history_here, image_of, own, sets_here, stands_here, there_of}
 use Rattle.provider.proofs.Flat.{rose_volume, rose_area, area_of_place, counts_same, devices_same, lasts_same, mapped_same}
 use Rattle.provider.proofs.Kept.{kept_one, kept_itself, called_there}
 
@@ -39,12 +39,8 @@ module _ {D : Type 0} (count : D → ℕ) {s : Plan} {old new : List (GroupValue
       → HasCause count s v (fault_of result) old new
   cause_of result same rose = grind (arith, counts_still, rose_of)
 
--- a call on a block that there is fails by a device
-pub by_device : {D : Type 0} (count : D → ℕ) (u b : ℕ) (x y : GroupValue D) → b < blocks_at x u → (cause : Cause) → HasCauseAt count u b x y cause → DeviceRose count u x y cause
-by_device count u b x y low cause h = grind arith
-
--- likewise on an image, where it stands
-pub by_fault : {D : Type 0} (count : D → ℕ) (u set b : ℕ) (x y : GroupValue D) → b < blocks_at x u → (fault : ImageFault) → HasGroupImageCause count u set b x y fault
+-- a call on a block that there is fails by a device, or for want of the image
+pub by_fault : {D : Type 0} (count : D → ℕ) (u : ℕ) (set : Option ℕ) (b : ℕ) (x y : GroupValue D) → b < blocks_at x u → (fault : ImageFault) → HasGroupImageCause count u set b x y fault
     → HasDigestCause count u set x y fault
 by_fault count u set b x y low fault h = grind arith
 
@@ -53,7 +49,8 @@ pub flush_rose : {D : Type 0} (count : D → ℕ) (u : ℕ) (x y : GroupValue D)
 flush_rose count u x y result is rose = grind arith
 
 -- a call on a block that there is does not lend for want of the image
-pub unseen_image : (sets : List ℕ) (blocks set b : ℕ) → b < blocks → (fault : ImageFault) → IsUnseen sets blocks set b fault → (fault ≡ image.NoSuchImage) × (is_among set sets ≡ false)
+pub unseen_image : (sets : List ℕ) (blocks : ℕ) (set : Option ℕ) (b : ℕ) → b < blocks → (fault : ImageFault) → IsUnseen sets blocks set b fault
+    → (fault ≡ image.NoSuchImage) × (is_there set sets ≡ false)
 unseen_image sets blocks set b low fault h = grind arith
 
 same_kept : {D : Type 0} (device : Ghosts D) (x y : GroupValue D) → y.devices ≡ x.devices → y.area ≡ x.area → IsKeptGroup device x y
@@ -93,14 +90,14 @@ module _ {D : Type 0} (device : Ghosts D) {s : Plan} {old new : List (GroupValue
         (quiet_stands device.told c.found.here c.after (own c.found hs) (stands_here device.told c.found hs are) quiet.blocks quiet.images quiet.kept.volumes quiet.records quiet.slots);
   }
 
-  pub image_cause_of : {T : Type 0} (set : ℕ) (result : Result T ImageFault) → OnOk result (is_among set (sets_at c.found.here c.found.within) ≡ true)
+  pub image_cause_of : {T : Type 0} (set : Option ℕ) (result : Result T ImageFault) → OnOk result (is_there set (sets_at c.found.here c.found.within) ≡ true)
       → OnOk result (IsUnfailed device.count c.found.here c.after)
       → IfErr result (HasDigestCause device.count c.found.within set c.found.here c.after) → HasImageCause device s v set (fault_of result) old new
-  image_cause_of set (Ok done) has same why = (image_of device.told c.found set true has, counts_still device.count c same)
-  image_cause_of set (Err image.NoSuchImage) has same why = (image_of device.told c.found set false why.0, groups_still why.1)
+  image_cause_of set (Ok done) has same why = (there_of device.told c.found set true has, counts_still device.count c same)
+  image_cause_of set (Err image.NoSuchImage) has same why = (there_of device.told c.found set false why.0, groups_still why.1)
   image_cause_of set (Err image.NoSuchBlock) has same why = why
-  image_cause_of set (Err image.Volume) has same why = (image_of device.told c.found set true why.0, rose_of device.count c Volume why.1)
-  image_cause_of set (Err image.Area) has same why = (image_of device.told c.found set true why.0, rose_of device.count c Area why.1)
+  image_cause_of set (Err image.Volume) has same why = (there_of device.told c.found set true why.0, rose_of device.count c Volume why.1)
+  image_cause_of set (Err image.Area) has same why = (there_of device.told c.found set true why.0, rose_of device.count c Area why.1)
 
   pub drop_kept : (set : ℕ) (b : Bool) → IsGroupDrop device c.found.here c.after c.found.within set b → AreKept device old new
   drop_kept set b h = grind (arith, all_kept, kept_itself)

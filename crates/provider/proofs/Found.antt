@@ -1,7 +1,7 @@
 -- The group of a volume is found among all groups, or called: what that says of the volume of the scenario.
 use Rattle.std.proofs.Common.{◌≡◌, ℕ, ◌<◌, List, length, refl, ap, sym, ◌∙◌, subst, arith, Bool, true, Option, Some, None, get_or, slice_get, is_some, IfSome, OnOk, Result}
-use Rattle.provider.proofs.Words.{AreGroups, AtPoint, GroupValue, HasGroups, HasImage, History, IfShown, IfStandFor, IsDigestAt, IsDigestShown, IsNow, IsPlaceOf, IsPointOf, Plan, ProviderValue}
-use Rattle.provider.proofs.Words.{StandsFor, VolumeRow, Write, and_parts, blocks_at, blocks_in, blocks_of, concat, content, contents, device_read, devices_of, history_at, is_among, of_group, one_place, place_at}
+use Rattle.provider.proofs.Words.{AreGroups, AtPoint, GroupValue, HasGroups, HasImage, History, IfShown, IfStandFor, IsDigestAt, IsDigestShown, IsPlaceOf, IsPointOf, IsThere, Plan, ProviderValue}
+use Rattle.provider.proofs.Words.{StandsFor, VolumeRow, Write, and_parts, blocks_at, blocks_in, blocks_of, concat, content, contents, device_read, devices_of, history_at, is_among, is_there, of_group, one_place, place_at}
 use Rattle.provider.proofs.Words.{place_in, sets_at, sets_in, sets_of, sha256, slice_get_inside, slice_get_map, told_at, told_in, used, used_by, volume_place}
 use Rattle.diff_area.specs.Places.{blocks_for}
 use Rattle.provider.specs.Calls.{IsDigestTold}
@@ -103,6 +103,10 @@ module _ {D : Type 0} (told : D → Option (List (List ℕ))) {s : Plan} {groups
   pub image_of : (set : ℕ) (b : Bool) → is_among set (sets_at f.here f.within) ≡ b → HasImage told s groups v set b
   image_of set b is hs are = point_among set (history_at hs v).images ∙ sym (ap (is_among set) (sets_here hs are)) ∙ is
 
+  pub there_of : (set : Option ℕ) (b : Bool) → is_there set (sets_at f.here f.within) ≡ b → IsThere told s groups v set b
+  there_of None b is = is
+  there_of (Some set) b is = image_of set b is
+
   pub used_of : (n : ℕ) → ((hs : List History) → StandsFor told f.here hs → n ≡ used (blocks_at f.here f.within) (group_history_at hs f.within).writes (group_history_at hs f.within).images)
       → IfStandFor told s groups (λ hs. n ≡ used (blocks_of s v) (history_at hs v).writes (history_at hs v).images)
   used_of n of hs are =
@@ -144,14 +148,11 @@ module _ {D : Type 0} (told : D → Option (List (List ℕ))) {s : Plan} {groups
   digest_told set None is wide = tt
   digest_told set (Some d) is wide = (digest_shown set d is, wide.0, wide.1)
 
--- what a block is now is so at the present end
-pub at_end : {D : Type 0} (told : D → Option (List (List ℕ))) (g : GroupValue D) (u b : ℕ) (bytes : List ℕ) → IsNow told g u b bytes → AtPoint told g u None (λ ws p. bytes ≡ content ws p b)
-at_end told g u b bytes now hs d p stands at tells area end = grind arith
-
--- likewise, as the image of a set shows it
+-- what is seen of a block is so at the point that is shown
 pub at_seen : {D : Type 0} (told : D → Option (List (List ℕ))) (g : GroupValue D) (u : ℕ) (set : Option ℕ) (b : ℕ) (bytes : List ℕ) → IsSeen told g u set b bytes
     → AtPoint told g u set (λ ws p. bytes ≡ content ws p b)
-at_seen told g u set b bytes seen = grind (arith, at_end)
+at_seen told g u None b bytes seen hs d p stands at tells area end = grind arith
+at_seen told g u (Some set) b bytes seen hs d p stands at tells area point = seen hs d p stands at tells area point
 
 pub some_map : {X : Type 0} (P Q : X → Type 0) (o : Option X) → IfSome o P → ((x : X) → P x → Q x) → IfSome o Q
 some_map x0 x1 o h f = grind arith

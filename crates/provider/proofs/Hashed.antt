@@ -1,7 +1,7 @@
 -- The blocks of a volume, or of an image, are hashed one after another.
 use Rattle.std.proofs.Common.{slice_set, ◌≡◌, ℕ, ◌+◌, List, [], ◌∷◌, ◌++◌, length, refl, ap, sym, ◌∙◌, subst, arith, true, Option, Some, slice_get, is_some}
-use Rattle.provider.proofs.Words.{Adds, AreaRose, AtPoint, Cause, DeviceRose, Ghosts, GroupValue, HasDigestCause, HasTaken, Hasher, ImageFault, ImageRose, IsQuietGroup, IsUnfailed}
-use Rattle.provider.proofs.Words.{Rose, VolumeRose, Write, append-nil, concat, concat-append, content, contents, is_among, map-range_with_len_more}
+use Rattle.provider.proofs.Words.{Adds, AreaRose, AtPoint, Ghosts, GroupValue, HasDigestCause, HasTaken, Hasher, ImageFault, ImageRose, IsQuietGroup, IsUnfailed}
+use Rattle.provider.proofs.Words.{Rose, VolumeRose, Write, append-nil, concat, concat-append, content, contents, is_there, map-range_with_len_more}
 use Rattle.provider.proofs.Words.{quiet_stands, same_Some, sets_at, slice_get_inside, slice_get_map, slice_get_within, unfailed_further}
 use Rattle.provider.specs.Words.{history_at}
 use Rattle.cow_volume.specs.declared.image_fault.ImageFault.TheVariants as image
@@ -78,12 +78,8 @@ volume_since {D = D} count first old new u same long rose =
 area_since : {D : Type 0} (count : D → ℕ) (first old new : GroupValue D) → IsUnfailed count first old → AreaRose count old new → AreaRose count first new
 area_since count first old new same rose = grind arith
 
-pub rose_since : {D : Type 0} (count : D → ℕ) (first old new : GroupValue D) (u : ℕ) (cause : Cause) → IsUnfailed count first old → length old.devices ≡ length first.devices
-    → DeviceRose count u old new cause → DeviceRose count u first new cause
-rose_since count first old new u cause same long rose = grind (arith, volume_since, area_since)
-
--- so there is no digest of the image, which stood
-pub digest_cause : {D : Type 0} (count : D → ℕ) (first old new : GroupValue D) (u set : ℕ) (fault : ImageFault) → is_among set (sets_at first u) ≡ true → IsUnfailed count first old
+-- so there is no digest of what was there
+pub digest_cause : {D : Type 0} (count : D → ℕ) (first old new : GroupValue D) (u : ℕ) (set : Option ℕ) (fault : ImageFault) → is_there set (sets_at first u) ≡ true → IsUnfailed count first old
     → length old.devices ≡ length first.devices
     → ImageRose count u old new fault → HasDigestCause count u set first new fault
 digest_cause count first old new u set fault has same long rose = grind (arith, volume_since, area_since)

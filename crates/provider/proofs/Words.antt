@@ -1,7 +1,7 @@
 -- The words of the provider, and the lemmas of volumes and of the provider, from one place.
-pub use Rattle.provider.specs.Words.{AreStored, Area, AreaRose, Cause, DeviceRose, Digested, Ghosts, GroupValue, HasTaken, Hasher, ImageFault, IsEvicted, IsNow}
+pub use Rattle.provider.specs.Words.{AreStored, Area, AreaRose, Cause, DeviceRose, Digested, Ghosts, GroupValue, HasTaken, Hasher, ImageFault, IsEvicted}
 pub use Rattle.provider.specs.Words.{IsSameDevice, IsSync, IsUnfailed, LastsAt, NoSuchBlock, NoSuchImage, StandsFor, StillLasts, Volume, VolumeRose, blocks_at, changed_at, gone_group, gone_row}
-pub use Rattle.provider.specs.Words.{history_in, is_among, made_room, sets_at, sets_in, sha256, told_in}
+pub use Rattle.provider.specs.Words.{history_in, is_among, is_there, made_room, sets_at, sets_in, sha256, told_in}
 pub use Rattle.std.proofs.Math.Seq.{take-length}
 pub use Rattle.std.proofs.lemmas.Bool.{and_parts, le-leb, leb-false, lt-leb, ne_eqb, true≢false}
 pub use Rattle.std.proofs.lemmas.Bool.Decides.{nat_tests}
@@ -25,7 +25,7 @@ pub use Rattle.cow_volume.proofs.Kept.{unfailed_further}
 pub use Rattle.cow_volume.proofs.Merging.{point_before}
 pub use Rattle.cow_volume.proofs.Reverting.{take_next}
 pub use Rattle.provider.specs.Calls.{AreWithout, GoUpTo, HasImage, HasImageCause, HasRoom, IfShown, IsDigestShown, IsDigestTold, IsDigestedAt, IsDropped, IsLastSet, IsPut, IsQuiet}
-pub use Rattle.provider.specs.Calls.{IsRevert, IsRoomMade, IsShown, holders, images_going, put_if, renumbered}
+pub use Rattle.provider.specs.Calls.{IsRevert, IsRoomMade, IsShown, IsThere, holders, images_going, put_if, renumbered}
 pub use Rattle.provider.specs.Devices.{AreKept, AreLasting, AreLater, HasCause, HasSyncCause, IsCallOn, IsKeptGroup, IsSynced, RoseAlone, area_place, counts_of, devices_of, fault_of}
 pub use Rattle.provider.specs.Devices.{first_place, tells_from, tells_of, told_at, told_by, told_of, volume_place, volume_place_in, volumes_area, volumes_area_in}
 pub use Rattle.provider.specs.GroupCalls.{Adds, AtPoint, HasDigestCause, ImageRose, IsDigestAt, IsGroupDrop, IsQuietGroup, IsWithout}

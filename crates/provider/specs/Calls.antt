@@ -97,13 +97,19 @@ IsRowOf s row = row.volume < length s.volumes
 abbrev pub HasImage : {D : Type 0} → (D → Option (List (List ℕ))) → Plan → List (GroupValue D) → ℕ → ℕ → Bool → Type 0
 HasImage told s groups v set has = IfStandFor told s groups (λ hs. is_some (point_in set (history_at hs v).images) ≡ has)
 
--- why a call on the image of a set failed: just where no such image stands, and then nothing changed; or a device failed
-abbrev pub HasImageCause : {D : Type 0} → Ghosts D → Plan → ℕ → ℕ → Option ImageFault → List (GroupValue D) → List (GroupValue D) → Type 0
-HasImageCause device s v set None old new = HasImage device.told s old v set true × HasCause device.count s v None old new
-HasImageCause device s v set (Some NoSuchImage) old new = HasImage device.told s old v set false × (new ≡ old)
+-- whether volume v is there: as it is now it always is, and as the image of a set shows it where that stands
+abbrev pub IsThere : {D : Type 0} → (D → Option (List (List ℕ))) → Plan → List (GroupValue D) → ℕ → Option ℕ → Bool → Type 0
+IsThere told s groups v None there = true ≡ there
+IsThere told s groups v (Some set) there = HasImage told s groups v set there
+
+-- why a call on volume v, as it is now or as the image of a set shows it, failed: just where no such image stands, and then nothing
+-- changed; or a device failed
+abbrev pub HasImageCause : {D : Type 0} → Ghosts D → Plan → ℕ → Option ℕ → Option ImageFault → List (GroupValue D) → List (GroupValue D) → Type 0
+HasImageCause device s v set None old new = IsThere device.told s old v set true × HasCause device.count s v None old new
+HasImageCause device s v set (Some NoSuchImage) old new = IsThere device.told s old v set false × (new ≡ old)
 HasImageCause device s v set (Some NoSuchBlock) old new = ⊥
-HasImageCause device s v set (Some Volume) old new = HasImage device.told s old v set true × HasCause device.count s v (Some cause.Volume) old new
-HasImageCause device s v set (Some Area) old new = HasImage device.told s old v set true × HasCause device.count s v (Some cause.Area) old new
+HasImageCause device s v set (Some Volume) old new = IsThere device.told s old v set true × HasCause device.count s v (Some cause.Volume) old new
+HasImageCause device s v set (Some Area) old new = IsThere device.told s old v set true × HasCause device.count s v (Some cause.Area) old new
 
 -- the image of a set went from volume v, or did not stand and nothing changed
 abbrev pub IsDropped : {D : Type 0} → Ghosts D → Plan → List (GroupValue D) → List (GroupValue D) → ℕ → ℕ → Bool → Type 0

@@ -1,9 +1,9 @@
 -- What a call on one group of several comes to. (This project's own.)
-use Rattle.std.specs.Prelude.{ℕ, ◌≡◌, ◌<◌, Bool, true, false, List, map, ◌++◌, Option, Some, None, is_some, slice_get, Result, OnOk, IfOk, IfErr}
+use Rattle.std.specs.Prelude.{ℕ, ◌≡◌, ◌<◌, Bool, true, false, List, map, ◌++◌, Option, Some, is_some, slice_get, Result, OnOk, IfOk, IfErr}
 use Rattle.std.specs.List.{concat}
 use Rattle.vss_model.specs.Words.{History, Write, content, contents, count_images, dropped}
-use Rattle.provider.specs.Words.{AreaRose, Cause, DeviceRose, Ghosts, GroupValue, HasTaken, Hasher, ImageFault, IsChanged, IsQuiet, IsUnfailed, NoSuchImage, StandsFor, VolumeRose, blocks_at}
-use Rattle.provider.specs.Words.{history_at, is_among, sets_at, sha256}
+use Rattle.provider.specs.Words.{AreaRose, Ghosts, GroupValue, HasTaken, Hasher, ImageFault, IsChanged, IsQuiet, IsUnfailed, NoSuchImage, StandsFor, VolumeRose, blocks_at}
+use Rattle.provider.specs.Words.{history_at, is_among, is_there, sets_at, sha256}
 use Rattle.cow_volume.specs.declared.image_fault.ImageFault.TheVariants.{NoSuchBlock, Volume, Area}
 use Rattle.provider.specs.Groups.{IsPointOf}
 use Rattle.provider.specs.Devices.{IsKeptGroup}
@@ -47,12 +47,6 @@ IsDigestAt told g u set digest = AtPoint told g u set (λ ws p. digest ≡ sha25
 abbrev pub IsQuietGroup : {D : Type 0} → Ghosts D → GroupValue D → GroupValue D → Type 0
 IsQuietGroup device old new = IsQuiet device old new
 
-pub record IsGroupDigest {D : Type 0} (device : Ghosts D) (old new : GroupValue D) (u : ℕ) (result : Result (List ℕ) Cause) : Type 0 where
-  pub digest : IfOk result (IsDigestAt device.told old u None)
-  pub same : OnOk result (IsUnfailed device.count old new)
-  pub rose : IfErr result (DeviceRose device.count u old new)
-  pub quiet : IsQuietGroup device old new
-
 -- which device failed, of a call on an image that stands
 abbrev pub ImageRose : {D : Type 0} → (D → ℕ) → ℕ → GroupValue D → GroupValue D → ImageFault → Type 0
 ImageRose count u old new NoSuchImage = ⊥
@@ -60,16 +54,16 @@ ImageRose count u old new NoSuchBlock = ⊥
 ImageRose count u old new Volume = VolumeRose count u old new
 ImageRose count u old new Area = AreaRose count old new
 
--- why there is no digest of an image: just where it does not stand, and then nothing changed; or a device failed
-abbrev pub HasDigestCause : {D : Type 0} → (D → ℕ) → ℕ → ℕ → GroupValue D → GroupValue D → ImageFault → Type 0
-HasDigestCause count u set old new NoSuchImage = (is_among set (sets_at old u) ≡ false) × (new ≡ old)
+-- why there is no digest: just where no such image stands, and then nothing changed; or a device failed
+abbrev pub HasDigestCause : {D : Type 0} → (D → ℕ) → ℕ → Option ℕ → GroupValue D → GroupValue D → ImageFault → Type 0
+HasDigestCause count u set old new NoSuchImage = (is_there set (sets_at old u) ≡ false) × (new ≡ old)
 HasDigestCause count u set old new NoSuchBlock = ⊥
-HasDigestCause count u set old new Volume = (is_among set (sets_at old u) ≡ true) × VolumeRose count u old new
-HasDigestCause count u set old new Area = (is_among set (sets_at old u) ≡ true) × AreaRose count old new
+HasDigestCause count u set old new Volume = (is_there set (sets_at old u) ≡ true) × VolumeRose count u old new
+HasDigestCause count u set old new Area = (is_there set (sets_at old u) ≡ true) × AreaRose count old new
 
-pub record IsGroupImageDigest {D : Type 0} (device : Ghosts D) (old new : GroupValue D) (u set : ℕ) (result : Result (List ℕ) ImageFault) : Type 0 where
-  pub digest : IfOk result (IsDigestAt device.told old u (Some set))
-  pub image : OnOk result (is_among set (sets_at old u) ≡ true)
+pub record IsGroupDigest {D : Type 0} (device : Ghosts D) (old new : GroupValue D) (u : ℕ) (set : Option ℕ) (result : Result (List ℕ) ImageFault) : Type 0 where
+  pub digest : IfOk result (IsDigestAt device.told old u set)
+  pub there : OnOk result (is_there set (sets_at old u) ≡ true)
   pub same : OnOk result (IsUnfailed device.count old new)
   pub cause : IfErr result (HasDigestCause device.count u set old new)
   pub quiet : IsQuietGroup device old new

@@ -4,9 +4,9 @@ pub use Rattle.block_data.specs.Hashed.{HasTaken}
 pub use Rattle.block_data.specs.PayloadBytes.{payload_bytes}
 pub use Rattle.block_data.specs.declared.hasher.Hasher.{Hasher}
 pub use Rattle.block_data.specs.declared.payload.Payload.{Payload}
-pub use Rattle.cow_volume.specs.Calls.{AreaRose, DeviceRose, HasCauseAt, HasImageCause, IsChanged, IsEvicted, IsKept, IsNow, IsQuiet, IsRevert, IsSameDevice, IsSeen, IsUnfailed, LastsAt, NeverFails, StillLasts, VolumeRose}
+pub use Rattle.cow_volume.specs.Calls.{AreaRose, DeviceRose, HasImageCause, IsChanged, IsEvicted, IsKept, IsQuiet, IsRevert, IsSameDevice, IsSeen, IsUnfailed, LastsAt, NeverFails, StillLasts, VolumeRose}
 pub use Rattle.cow_volume.specs.Calls.{blocks_at}
-pub use Rattle.cow_volume.specs.Calls.{blocks_in, changed_at, counted_as, counted_by, history_at, history_in, is_among, made_room, sets_at, sets_in, uncounted}
+pub use Rattle.cow_volume.specs.Calls.{blocks_in, changed_at, counted_as, counted_by, history_at, history_in, is_among, is_there, made_room, sets_at, sets_in, uncounted}
 pub use Rattle.cow_volume.specs.Changes.{gone_row}
 pub use Rattle.cow_volume.specs.Ending.{AllTell, IsSync, IsSynced}
 pub use Rattle.cow_volume.specs.GroupValue.{GroupValue, placed}

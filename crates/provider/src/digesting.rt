@@ -9,7 +9,7 @@ ghost use Rattle.provider.specs.Calls.{IsDigestTold, IsDigestedAt, IsRowOf};
 
 use crate::digested::Digested;
 use crate::digests_of::DigestsOf;
-use crate::hashing::{are_bytes, lend};
+use crate::hashing::are_bytes;
 use block_data::{BlockBuf, Hasher};
 use cow_volume::CowGroup;
 use scenario::Scenario;
@@ -33,7 +33,7 @@ fn add_shared<D: Device>(
     requires in_range { block < blocks_at group.now volume }
     ensures { result ≡ true → Adds D.told group.now volume set block hasher.old hasher.new }
 {
-    if let Some(bytes) = lend(group, volume, set, block) {
+    if let Ok(Some(bytes)) = group.lend(volume, set, block) {
         hasher.add(bytes);
         return true;
     }

@@ -1,4 +1,4 @@
-ghost use Rattle.std.specs.Prelude.{◌≡◌, ◌≢◌, ◌<◌, ◌≤◌, ◌*◌, ℕ, [], true, false, length, map, slice_get, Some, None, is_some, vec_capacity, IfOk, IfErr, IfSome, OnOk, All};
+ghost use Rattle.std.specs.Prelude.{◌≡◌, ◌≢◌, ◌<◌, ◌≤◌, ◌*◌, ℕ, [], true, false, length, map, slice_get, Some, is_some, vec_capacity, IfOk, IfErr, IfSome, OnOk, All};
 ghost use Rattle.hex.specs.Hex.{IsBytes};
 ghost use Rattle.block_data.specs.PayloadBytes.{payload_bytes};
 ghost use Rattle.write_history.specs.History.{fresh, sets_of};
@@ -12,7 +12,7 @@ ghost use Rattle.cow_volume.specs.GroupValue.{GroupValue};
 ghost use Rattle.cow_volume.specs.Parts.{IsLentBy};
 ghost use Rattle.provider.specs.Groups.{AreFit, AreFresh, AreGroups, AreWhole, HasGroups, IfStandFor, history_at};
 ghost use Rattle.provider.specs.Devices.{AreKept, AreLasting, HasCause, HasSyncCause, IsSynced, devices_of, fault_of, volume_place};
-ghost use Rattle.provider.specs.Calls.{AreWithout, HasImage, HasImageCause, HasRoom, IsDigestedAt, IsDigestShown, IsDropped, IsPut, IsQuiet, IsRevert, IsRoomMade, IsShown, StopsAfter};
+ghost use Rattle.provider.specs.Calls.{AreWithout, HasImage, HasImageCause, HasRoom, IsDigestedAt, IsDigestShown, IsDropped, IsPut, IsQuiet, IsRevert, IsRoomMade, IsShown, IsThere, StopsAfter};
 ghost use Rattle.provider.specs.Words.{counted_as, LastsAt, NeverFails};
 ghost use Rattle.provider.specs.Preparing.{CanCutOn, HasJoined, HasStepCause, IsCutOn, refusal, step_taken};
 
@@ -21,7 +21,7 @@ use crate::digesting::digests_in;
 use crate::digests_of::DigestsOf;
 use crate::dropping::{drop_on, drop_set_in};
 use crate::ending::list_devices;
-use crate::hashing::{digest_of, digest_of_image};
+use crate::hashing::digest_of;
 use crate::making::device_count;
 use crate::preparing::refusal;
 use crate::renumbering::renumber;
@@ -131,63 +131,58 @@ impl<D: Device> Provider<D> {
         self.groups[place.group as usize].put(place.volume, block, payload)
     }
 
-    /// Lends a block of a volume as it is, in place. None where the volume's device does not lend.
-    pub fn lend_block(&self, scenario: &Scenario, volume: u32, block: u32) -> Option<&[u8]>
+    /// Lends a block of a volume, as it is or as the image of a set shows it, in place. None where the device that has it does not
+    /// lend. The error is NoSuchImage alone.
+    pub fn lend(
+        &self,
+        scenario: &Scenario,
+        volume: u32,
+        set: Option<u32>,
+        block: u32,
+    ) -> Result<Option<&[u8]>, ImageFault>
         requires block { IsBlock scenario.now volume block }
         requires has { HasGroups scenario.now self.now.groups }
-        ensures now { IfSome result (λ bytes. IsShown D.told scenario.now self.now.groups volume None block bytes.now) }
-        ensures whole { IfSome result (λ bytes. length bytes.now ≡ BLOCK) }
-        ensures lends { (d : D) → slice_get (devices_of self.now.groups) (volume_place scenario.now volume) ≡ Some d → is_some result ≡ D.lending d }
+        ensures shown { IfOk result (λ lent. IfSome lent (λ bytes. IsShown D.told scenario.now self.now.groups volume set block bytes.now)) }
+        ensures whole { IfOk result (λ lent. IfSome lent (λ bytes. length bytes.now ≡ BLOCK)) }
+        ensures there { OnOk result (IsThere D.told scenario.now self.now.groups volume set true) }
+        ensures lends { (g u : ℕ) (x : GroupValue D) → IsPlaceOf scenario.now volume g u → slice_get self.now.groups g ≡ Some x → IfOk result (λ lent. IsLentBy D.lending x u set block (is_some lent)) }
+        ensures none { IfErr result (λ fault. (fault ≡ ImageFault.NoSuchImage) × IsThere D.told scenario.now self.now.groups volume set false) }
     {
         let place = scenario.place(volume);
-        self.groups[place.group as usize].lend_block(place.volume, block)
+        self.groups[place.group as usize].lend(place.volume, set, block)
     }
 
-    /// Reads a block of a volume as it is into `out`, which after a failed read holds any bytes.
+    /// Reads a block of a volume, as it is or as the image of a set shows it, into `out`, which after a failed read holds any bytes.
     pub fn read_into(
         &mut self,
         scenario: &Scenario,
         volume: u32,
+        set: Option<u32>,
         block: u32,
         out: &mut [u8],
-    ) -> Result<(), Cause>
+    ) -> Result<(), ImageFault>
         requires block { IsBlock scenario.now volume block }
         requires has { HasGroups scenario.now self.old.groups }
         requires whole { length out.old ≡ BLOCK }
-        ensures now { OnOk result (IsShown D.told scenario.now self.old.groups volume None block out.new) }
+        ensures shown { OnOk result (IsShown D.told scenario.now self.old.groups volume set block out.new) }
         ensures quiet { IsQuiet D.Device scenario.now self.old.groups self.new.groups volume }
-        ensures cause { HasCause D.count scenario.now volume (fault_of result) self.old.groups self.new.groups }
+        ensures cause { HasImageCause D.Device scenario.now volume set (fault_of result) self.old.groups self.new.groups }
         ensures set { self.new ≡ record self.old { groups = self.new.groups } }
     {
         let place = scenario.place(volume);
-        self.groups[place.group as usize].read_into(place.volume, block, out)
+        self.groups[place.group as usize].read_into(place.volume, set, block, out)
     }
 
-    /// The SHA-256 of all blocks of a volume, in order. Lent blocks are hashed in place.
-    pub fn digest(&mut self, scenario: &Scenario, volume: u32) -> Result<[u8; 32], Cause>
-        requires volume { volume < length scenario.now.volumes }
-        requires has { HasGroups scenario.now self.old.groups }
-        ensures digest { IfOk result (IsDigestShown D.told scenario.now self.old.groups volume None) }
-        ensures wide { IfOk result (λ digest. (length digest ≡ 32) × IsBytes digest) }
-        ensures quiet { IsQuiet D.Device scenario.now self.old.groups self.new.groups volume }
-        ensures cause { HasCause D.count scenario.now volume (fault_of result) self.old.groups self.new.groups }
-        ensures set { self.new ≡ record self.old { groups = self.new.groups } }
-    {
-        let place = scenario.place(volume);
-        let group = &mut self.groups[place.group as usize];
-        digest_of(group, &mut self.block, place.volume)
-    }
-
-    /// The SHA-256 of all blocks that the image of a set shows, in order. Lent blocks are hashed in place.
-    pub fn digest_image(
+    /// The SHA-256 of all blocks of a volume, as it is or as the image of a set shows it, in order. Lent blocks are hashed in place.
+    pub fn digest(
         &mut self,
         scenario: &Scenario,
-        set: u32,
         volume: u32,
+        set: Option<u32>,
     ) -> Result<[u8; 32], ImageFault>
         requires volume { volume < length scenario.now.volumes }
         requires has { HasGroups scenario.now self.old.groups }
-        ensures digest { IfOk result (IsDigestShown D.told scenario.now self.old.groups volume (Some set)) }
+        ensures digest { IfOk result (IsDigestShown D.told scenario.now self.old.groups volume set) }
         ensures wide { IfOk result (λ digest. (length digest ≡ 32) × IsBytes digest) }
         ensures quiet { IsQuiet D.Device scenario.now self.old.groups self.new.groups volume }
         ensures cause { HasImageCause D.Device scenario.now volume set (fault_of result) self.old.groups self.new.groups }
@@ -195,7 +190,7 @@ impl<D: Device> Provider<D> {
     {
         let place = scenario.place(volume);
         let group = &mut self.groups[place.group as usize];
-        digest_of_image(group, &mut self.block, place.volume, set)
+        digest_of(group, &mut self.block, place.volume, set)
     }
 
     /// The digests of all volumes, in order, each followed by those of its images if they are wanted, the oldest first. They are
@@ -214,48 +209,6 @@ impl<D: Device> Provider<D> {
         ensures { IfOk result (λ rows. All (IsDigestedAt D.told scenario.now self.now.groups) rows.items) }
     {
         digests_in(rt, alloc, &self.groups, scenario, wanted)
-    }
-
-    /// Lends a block as the image of a set shows it, in place. None where the device that has it does not lend. The error is
-    /// NoSuchImage alone.
-    pub fn lend_image(
-        &self,
-        scenario: &Scenario,
-        set: u32,
-        volume: u32,
-        block: u32,
-    ) -> Result<Option<&[u8]>, ImageFault>
-        requires block { IsBlock scenario.now volume block }
-        requires has { HasGroups scenario.now self.now.groups }
-        ensures shown { IfOk result (λ lent. IfSome lent (λ bytes. IsShown D.told scenario.now self.now.groups volume (Some set) block bytes.now)) }
-        ensures whole { IfOk result (λ lent. IfSome lent (λ bytes. length bytes.now ≡ BLOCK)) }
-        ensures image { OnOk result (HasImage D.told scenario.now self.now.groups volume set true) }
-        ensures lends { (g u : ℕ) (x : GroupValue D) → IsPlaceOf scenario.now volume g u → slice_get self.now.groups g ≡ Some x → IfOk result (λ lent. IsLentBy D.lending x u set block (is_some lent)) }
-        ensures none { IfErr result (λ fault. (fault ≡ ImageFault.NoSuchImage) × HasImage D.told scenario.now self.now.groups volume set false) }
-    {
-        let place = scenario.place(volume);
-        self.groups[place.group as usize].lend_image(place.volume, set, block)
-    }
-
-    /// Reads a block as the image of a set shows it into `out`, which after a failed read holds any bytes.
-    pub fn read_image_into(
-        &mut self,
-        scenario: &Scenario,
-        set: u32,
-        volume: u32,
-        block: u32,
-        out: &mut [u8],
-    ) -> Result<(), ImageFault>
-        requires block { IsBlock scenario.now volume block }
-        requires has { HasGroups scenario.now self.old.groups }
-        requires whole { length out.old ≡ BLOCK }
-        ensures shown { OnOk result (IsShown D.told scenario.now self.old.groups volume (Some set) block out.new) }
-        ensures quiet { IsQuiet D.Device scenario.now self.old.groups self.new.groups volume }
-        ensures cause { HasImageCause D.Device scenario.now volume set (fault_of result) self.old.groups self.new.groups }
-        ensures set { self.new ≡ record self.old { groups = self.new.groups } }
-    {
-        let place = scenario.place(volume);
-        self.groups[place.group as usize].read_image_into(place.volume, set, block, out)
     }
 
     /// The sets of the images of a volume, the oldest first.

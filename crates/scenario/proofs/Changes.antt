@@ -1,8 +1,9 @@
 -- What one line more changes: the lines of the last lane, a writer's script, and the counts of both.
-use Rattle.std.proofs.Common.{◌≡◌, ℕ, zero, suc, ◌+◌, ◌<◌, cond, List, [], ◌∷◌, ◌++◌, length, map, set, get_or, All, refl, ap, sym, ◌∙◌, arith, length-append}
+use Rattle.std.proofs.Common.{◌≡◌, ℕ, zero, suc, ◌+◌, ◌<◌, cond, List, [], ◌∷◌, ◌++◌, length, map, set, get_or, All, refl, ap, sym, ◌∙◌, arith}
 use Rattle.std.proofs.lemmas.List.{length-map, map-set, get_or-map}
 use Rattle.std.proofs.lemmas.List.Sums.{sum-map, sum_by-cons, sum_by_push}
 use Rattle.std.proofs.lemmas.List.Elements.{All-nil, All-cons, All-head, All-tail}
+use Rattle.std.proofs.lemmas.Grind.{common_steps}
 use Rattle.writer_calls.specs.declared.scripted.Scripted.{Scripted}
 use Rattle.scenario.specs.declared.op.Op.{Op}
 use Rattle.scenario.specs.declared.lane.Lane.{Lane}
@@ -18,19 +19,13 @@ use Rattle.scenario.specs.Drafts.{agendas_with}
 -- ## the counts of a list that has one more in front
 
 pub lines_cons : (l : LanePlan) (ls : List LanePlan) → line_count (l ∷ ls) ≡ length l.lines + line_count ls
-lines_cons l ls =
-    let f : LanePlan → ℕ = λ l. length l.lines in
-    sum-map f (l ∷ ls) ∙ sum_by-cons f l ls ∙ ap (λ n. f l + n) (sym (sum-map f ls))
+lines_cons l ls = grind (arith, common_steps, sum-map, sum_by-cons)
 
 pub agendas_cons : (l : LanePlan) (ls : List LanePlan) → agenda_count (l ∷ ls) ≡ agenda_lines l.lines + agenda_count ls
-agendas_cons l ls =
-    let f : LanePlan → ℕ = λ l. agenda_lines l.lines in
-    sum-map f (l ∷ ls) ∙ sum_by-cons f l ls ∙ ap (λ n. f l + n) (sym (sum-map f ls))
+agendas_cons l ls = grind (arith, common_steps, sum-map, sum_by-cons)
 
 pub answers_cons : (w : WriterPlan) (ws : List WriterPlan) → answer_count (w ∷ ws) ≡ length w.script + answer_count ws
-answers_cons w ws =
-    let f : WriterPlan → ℕ = λ w. length w.script in
-    sum-map f (w ∷ ws) ∙ sum_by-cons f w ws ∙ ap (λ n. f w + n) (sym (sum-map f ws))
+answers_cons w ws = grind (arith, common_steps, sum-map, sum_by-cons)
 
 -- ## a line more in the last lane
 
@@ -46,20 +41,16 @@ with_line_is line (lane ∷ next ∷ lanes) (suc n) d h = ap (λ (xs : List Lane
 
 pub lines_more : (line : LaneLine) (lanes : List LanePlan) → 0 < length lanes → line_count (with_line line lanes) ≡ line_count lanes + 1
 lines_more line [] h = absurd (omega arith)
-lines_more line (lane ∷ []) h =
-    omega (arith, lines_cons (one_more line lane) [], lines_cons lane [], length-append lane.lines (line ∷ []))
-lines_more line (lane ∷ next ∷ lanes) h =
-    omega (arith, lines_cons lane (with_line line (next ∷ lanes)), lines_cons lane (next ∷ lanes), lines_more line (next ∷ lanes) (omega arith))
+lines_more line (lane ∷ []) h = grind (arith, common_steps, lines_cons)
+lines_more line (lane ∷ next ∷ lanes) h = grind (arith, common_steps, lines_cons, lines_more line (next ∷ lanes) (omega arith))
 
 agenda_line_more : (lines : List LaneLine) (line : LaneLine) → agenda_lines (lines ++ line ∷ []) ≡ agenda_lines lines + cond (begins_agenda line.op) 1 0
 agenda_line_more lines line = sum_by_push (λ (l : LaneLine). cond (begins_agenda l.op) 1 0) lines line
 
 agendas_more_by : (line : LaneLine) (lanes : List LanePlan) → 0 < length lanes → agenda_count (with_line line lanes) ≡ agenda_count lanes + cond (begins_agenda line.op) 1 0
 agendas_more_by line [] h = absurd (omega arith)
-agendas_more_by line (lane ∷ []) h =
-    omega (arith, agendas_cons (one_more line lane) [], agendas_cons lane [], agenda_line_more lane.lines line)
-agendas_more_by line (lane ∷ next ∷ lanes) h =
-    omega (arith, agendas_cons lane (with_line line (next ∷ lanes)), agendas_cons lane (next ∷ lanes), agendas_more_by line (next ∷ lanes) (omega arith))
+agendas_more_by line (lane ∷ []) h = grind (arith, common_steps, agendas_cons, agenda_line_more)
+agendas_more_by line (lane ∷ next ∷ lanes) h = grind (arith, common_steps, agendas_cons, agendas_more_by line (next ∷ lanes) (omega arith))
 
 agendas_with_is : (n : ℕ) (op : Op) → n + cond (begins_agenda op) 1 0 ≡ agendas_with n op
 agendas_with_is n op = grind arith
@@ -85,12 +76,10 @@ lanes_more P line (lane ∷ next ∷ lanes) more h =
 -- ## a lane more
 
 pub lines_in_new : (lanes : List LanePlan) (lane : LanePlan) → lane.lines ≡ [] → line_count (lanes ++ lane ∷ []) ≡ line_count lanes
-lines_in_new [] lane h = omega (arith, lines_cons lane [], ap (λ (ls : List LaneLine). length ls) h)
-lines_in_new (l ∷ lanes) lane h = omega (arith, lines_cons l (lanes ++ lane ∷ []), lines_cons l lanes, lines_in_new lanes lane h)
+lines_in_new lanes lane h = grind (arith, common_steps, lines_cons)
 
 pub agendas_in_new : (lanes : List LanePlan) (lane : LanePlan) → lane.lines ≡ [] → agenda_count (lanes ++ lane ∷ []) ≡ agenda_count lanes
-agendas_in_new [] lane h = omega (arith, agendas_cons lane [], ap (λ (ls : List LaneLine). agenda_lines ls) h)
-agendas_in_new (l ∷ lanes) lane h = omega (arith, agendas_cons l (lanes ++ lane ∷ []), agendas_cons l lanes, agendas_in_new lanes lane h)
+agendas_in_new lanes lane h = grind (arith, common_steps, agendas_cons)
 
 -- ## a row more in a script
 
@@ -104,10 +93,8 @@ with_answer_is (suc w) row (writer ∷ writers) d h = ap (λ (xs : List WriterPl
 
 pub answers_more : (w : ℕ) (row : Scripted) (writers : List WriterPlan) → w < length writers → answer_count (with_answer w row writers) ≡ answer_count writers + 1
 answers_more w row [] h = absurd (omega arith)
-answers_more zero row (writer ∷ writers) h =
-    omega (arith, answers_cons (one_row_more row writer) writers, answers_cons writer writers, length-append writer.script (row ∷ []))
-answers_more (suc w) row (writer ∷ writers) h =
-    omega (arith, answers_cons writer (with_answer w row writers), answers_cons writer writers, answers_more w row writers (omega arith))
+answers_more zero row (writer ∷ writers) h = grind (arith, common_steps, answers_cons)
+answers_more (suc w) row (writer ∷ writers) h = grind (arith, common_steps, answers_cons, answers_more w row writers (omega arith))
 
 pub writer_names_stay : (text : List ℕ) (w : ℕ) (row : Scripted) (writers : List WriterPlan) → writer_names text (with_answer w row writers) ≡ writer_names text writers
 writer_names_stay text w row [] = refl
@@ -129,18 +116,16 @@ writers_more P (suc w) row (writer ∷ writers) more h =
 -- ## a writer more
 
 pub answers_in_new : (writers : List WriterPlan) (writer : WriterPlan) → writer.script ≡ [] → answer_count (writers ++ writer ∷ []) ≡ answer_count writers
-answers_in_new [] writer h = omega (arith, answers_cons writer [], ap (λ (rows : List Scripted). length rows) h)
-answers_in_new (w ∷ writers) writer h = omega (arith, answers_cons w (writers ++ writer ∷ []), answers_cons w writers, answers_in_new writers writer h)
+answers_in_new writers writer h = grind (arith, common_steps, answers_cons)
 
 -- ## as they are stored
 
 pub line_stored : (lanes : List Lane) (n : ℕ) (x y : Lane) (line : LaneLine) → length lanes ≡ suc n → x ≡ get_or lanes n x → lane_plan y ≡ one_more line (lane_plan x)
     → map lane_plan (set lanes n y) ≡ with_line line (map lane_plan lanes)
 line_stored lanes n x y line count at more =
-    let inside : n < length lanes = omega arith in
-    let long : length (map lane_plan lanes) ≡ suc n = length-map lanes lane_plan ∙ count in
-    let old : get_or (map lane_plan lanes) n (lane_plan x) ≡ lane_plan x = get_or-map lane_plan lanes n x (lane_plan x) inside ∙ sym (ap lane_plan at) in
-    map-set lane_plan lanes n y ∙ ap (λ (l : LanePlan). set (map lane_plan lanes) n l) (more ∙ sym (ap (one_more line) old)) ∙ sym (with_line_is line (map lane_plan lanes) n (lane_plan x) long)
+    let inside : n < length lanes = omega arith in let long : length (map lane_plan lanes) ≡ suc n = length-map lanes lane_plan ∙ count in
+    let fact = with_line_is line (map lane_plan lanes) n (lane_plan x) long in
+    grind (arith, common_steps, length-map lanes lane_plan, get_or-map lane_plan lanes n x (lane_plan x) inside, map-set lane_plan lanes n y)
 
 pub answer_stored : (writers : List Writer) (w : ℕ) (x y : Writer) (row : Scripted) → w < length writers → x ≡ get_or writers w x → writer_plan y ≡ one_row_more row (writer_plan x)
     → map writer_plan (set writers w y) ≡ with_answer w row (map writer_plan writers)

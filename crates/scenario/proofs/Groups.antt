@@ -1,8 +1,8 @@
 -- Volumes in their groups: each is in one of those before it, or in the next.
-use Rattle.std.proofs.Common.{◌≡◌, ℕ, zero, suc, ◌+◌, ◌<◌, ◌==◌, Bool, true, false, List, [], ◌∷◌, ◌++◌, length, set, All, Option, Some, None, IfSome, refl, ap, sym, arith, length-append}
-use Rattle.std.specs.Prelude.{slice_get, if◌then◌else◌, nat_lt}
-use Rattle.std.proofs.lemmas.Bool.Decides.{nat_tests}
+use Rattle.std.proofs.Common.{◌≡◌, ℕ, zero, suc, ◌+◌, ◌<◌, Bool, List, [], ◌∷◌, ◌++◌, length, set, All, Option, Some, None, IfSome, refl, ap, sym, arith}
+use Rattle.std.specs.Prelude.{slice_get, if◌then◌else◌}
 use Rattle.std.proofs.lemmas.List.Elements.{All-weaker}
+use Rattle.std.proofs.lemmas.Grind.{common_steps}
 use Rattle.scenario.specs.declared.area_row.AreaRow.{AreaRow}
 use Rattle.scenario.specs.declared.volume_row.VolumeRow.{VolumeRow}
 use Rattle.scenario.specs.Plan.{GroupPlan}
@@ -37,40 +37,24 @@ by_tests : (a b : Bool) (m : ℕ) (new x y u v : Option ℕ) → (x ≡ Some m �
 by_tests a b m new x y u v f g h = grind arith
 
 pub numbered_new : (n m : ℕ) (rows : List VolumeRow) (row : VolumeRow) → groups_from n rows ≡ Some m → row.group ≡ m → groups_from n (rows ++ row ∷ []) ≡ Some (m + 1)
-numbered_new n m [] row h e =
-    let same : n ≡ m = cc h in
-    let no : nat_lt row.group n ≡ false = grind (arith, nat_tests) in
-    let yes : (row.group == n) ≡ true = grind (arith, nat_tests) in
-    rw (no, yes) (ap (λ k. Some (k + 1)) same)
-numbered_new n m (r ∷ rows) row h e =
-    by_tests (nat_lt r.group n) (r.group == n) m (Some (m + 1)) (groups_from n rows) (groups_from (n + 1) rows) (groups_from n (rows ++ row ∷ [])) (groups_from (n + 1) (rows ++ row ∷ []))
-    (λ k. numbered_new n m rows row k e) (λ k. numbered_new (n + 1) m rows row k e) h
+numbered_new n m [] row h e = grind (arith, common_steps)
+numbered_new n m (r ∷ rows) row h e = grind (arith, common_steps, by_tests, numbered_new n m rows row, numbered_new (n + 1) m rows row)
 
 pub numbered_old : (n m : ℕ) (rows : List VolumeRow) (row : VolumeRow) → groups_from n rows ≡ Some m → row.group < m → groups_from n (rows ++ row ∷ []) ≡ Some m
-numbered_old n m [] row h e =
-    let same : n ≡ m = cc h in
-    let yes : nat_lt row.group n ≡ true = grind (arith, nat_tests) in
-    rw yes h
-numbered_old n m (r ∷ rows) row h e =
-    by_tests (nat_lt r.group n) (r.group == n) m (Some m) (groups_from n rows) (groups_from (n + 1) rows) (groups_from n (rows ++ row ∷ [])) (groups_from (n + 1) (rows ++ row ∷ []))
-    (λ k. numbered_old n m rows row k e) (λ k. numbered_old (n + 1) m rows row k e) h
+numbered_old n m [] row h e = grind (arith, common_steps)
+numbered_old n m (r ∷ rows) row h e = grind (arith, common_steps, by_tests, numbered_old n m rows row, numbered_old (n + 1) m rows row)
 
 -- ## one group more
 
 in_more_groups : (groups : List GroupPlan) (g : GroupPlan) (r : VolumeRow) → IsInGroup groups r → IsInGroup (groups ++ g ∷ []) r
-in_more_groups groups g r h =
-    record {
-      in_range = let more = length-append groups (g ∷ []) in let within : r.group < length groups = h.in_range in omega arith;
-      slots = rw (get_left groups (g ∷ []) r.group h.in_range) h.slots;
-    }
+in_more_groups groups g r h = grind (arith, common_steps, get_left)
 
 pub all_in_more_groups : (groups : List GroupPlan) (g : GroupPlan) (rows : List VolumeRow) → All (IsInGroup groups) rows → All (IsInGroup (groups ++ g ∷ [])) rows
 all_in_more_groups groups g rows h = All-weaker (IsInGroup groups) (IsInGroup (groups ++ g ∷ [])) (in_more_groups groups g) rows h
 
 -- a volume in the group that comes next
 pub in_new_group : (groups : List GroupPlan) (g : GroupPlan) (r : VolumeRow) → r.group ≡ length groups → r.slots ≡ g.slots → IsInGroup (groups ++ g ∷ []) r
-in_new_group groups g r e s =
-    record { in_range = omega (arith, length-append groups (g ∷ [])); slots = rw (e, get_last groups g) s }
+in_new_group groups g r e s = grind (arith, common_steps, get_last)
 
 -- a volume in a group that is there
 pub in_old_group : (groups : List GroupPlan) (g : GroupPlan) (r : VolumeRow) → r.group < length groups → slice_get groups r.group ≡ Some g → r.slots ≡ g.slots → IsInGroup groups r

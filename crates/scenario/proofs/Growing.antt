@@ -2,6 +2,7 @@
 use Rattle.std.proofs.Common.{◌≡◌, ◌∙◌, ℕ, ◌+◌, ◌-◌, ◌<◌, ◌≤◌, true, false, List, [], ◌∷◌, ◌++◌, length, Option, Some, None, ap, sym, subst, arith, length-append}
 use Rattle.std.specs.Prelude.{is_some, Result, Ok, Err}
 use Rattle.std.proofs.lemmas.List.{take-append-le, drop-append-le, length-drop, append_assoc, append-nil}
+use Rattle.std.proofs.lemmas.Grind.{common_steps}
 use Rattle.scenario.specs.declared.span.Span.{Span}
 use Rattle.scenario.specs.declared.op.Op.{Op}
 use Rattle.scenario.specs.declared.op.Op.TheVariants.{Component}
@@ -49,39 +50,24 @@ place_more : (text more : List ℕ) (span : Span) (names : List (List ℕ)) → 
 place_more text more span names h e = ap (λ name. place_of name names) (bytes_more text more span h) ∙ e
 
 volume_more : (text more : List ℕ) (d : DraftValue) (row : VolumeRow) (size : ℕ) → IsNewVolume text d row size → IsNewVolume (text ++ more) d row size
-volume_more text more d row size h =
-    record {
-      limits = record { name = short_more text more row.name h.limits.name; some = h.limits.some; most = h.limits.most; few_slots = h.limits.few_slots };
-      few = h.few;
-      small = h.small;
-      new = place_more text more row.name d.names.volumes h.limits.name.part h.new;
-      before_lanes = h.before_lanes;
-    }
+volume_more text more d row size h = grind (arith, common_steps, short_more, place_more)
 
 name_more : (text more : List ℕ) (names : List (List ℕ)) (name : Span) → IsNewName text names name → IsNewName (text ++ more) names name
 name_more text more names name h = record { short = short_more text more name h.short; new = place_more text more name names h.short.part h.new }
 
 ranged_more : (text more : List ℕ) (rows : List VolumeRow) (writers : ℕ) (op : Op) → IsRanged (length text) rows writers op → IsRanged (length (text ++ more)) rows writers op
-ranged_more text more rows writers (Component w full) h = (h.0, part_more text more full h.1)
-ranged_more text more rows writers _ h = h
+ranged_more text more rows writers op h = grind (arith, common_steps, part_more)
 
 entry_more : (text more : List ℕ) (d : DraftValue) (e : Entry) → IsEntry text d e → IsEntry (text ++ more) d e
 entry_more text more d entry.Skipped h = tt
 entry_more text more d entry.Opening h = tt
-entry_more text more d (entry.Area area) h =
-    record {
-      limits = record { name = short_more text more area.name h.limits.name; few_slots = h.limits.few_slots };
-      few = h.few;
-      small = h.small;
-      new = place_more text more area.name d.names.areas h.limits.name.part h.new;
-    }
+entry_more text more d (entry.Area area) h = grind (arith, common_steps, short_more, place_more)
 entry_more text more d (entry.OwnVolume row) h = (volume_more text more d row (row.blocks + row.slots) h.0, h.1)
 entry_more text more d (entry.SharedVolume row a area) h = (volume_more text more d row row.blocks h.0, h.1)
 entry_more text more d (entry.Writer name metadata) h = (name_more text more d.names.writers name h.0, h.1, h.2, h.3)
 entry_more text more d (entry.Answer w row) h = h
 entry_more text more d (entry.Lane name whom) h = (name_more text more d.names.lanes name h.0, h.1, h.2)
-entry_more text more d (entry.Line line) h =
-    record { ranged = ranged_more text more d.said.volumes (length d.said.writers) line.op h.ranged; few = h.few; few_agendas = h.few_agendas; in_lane = h.in_lane }
+entry_more text more d (entry.Line line) h = grind (arith, common_steps, ranged_more)
 
 -- the names are the same
 names_more : (text more : List ℕ) (d : DraftValue) (e : Entry) → IsEntry text d e → names_after (text ++ more) d.names (saying_in e) ≡ names_after text d.names (saying_in e)
@@ -103,19 +89,11 @@ unfolding volume_named writer_named lane_named
 said_more text more k d entry.Skipped names h g = tt
 said_more text more k d entry.Opening names h g = tt
 said_more text more k d (entry.Area area) names h g = tt
-said_more text more k d (entry.OwnVolume row) names h g =
-    let new = (volume_more text more d row (row.blocks + row.slots) h.0).new in
-    (named_name text more row.name h.0.limits.name.part g, none_is _ (ap (place_of (bytes_of (text ++ more) row.name)) (sym names.volumes) ∙ new))
-said_more text more k d (entry.SharedVolume row a area) names h g =
-    let new = (volume_more text more d row row.blocks h.0).new in
-    (named_name text more row.name h.0.limits.name.part g, none_is _ (ap (place_of (bytes_of (text ++ more) row.name)) (sym names.volumes) ∙ new))
-said_more text more k d (entry.Writer name metadata) names h g =
-    let new = (name_more text more d.names.writers name h.0).new in
-    (named_name text more name h.0.short.part g, none_is _ (ap (place_of (bytes_of (text ++ more) name)) (sym names.writers) ∙ new))
+said_more text more k d (entry.OwnVolume row) names h g = grind (arith, common_steps, volume_more, named_name, none_is)
+said_more text more k d (entry.SharedVolume row a area) names h g = grind (arith, common_steps, volume_more, named_name, none_is)
+said_more text more k d (entry.Writer name metadata) names h g = grind (arith, common_steps, named_name, none_is, name_more)
 said_more text more k d (entry.Answer w row) names h g = tt
-said_more text more k d (entry.Lane name whom) names h g =
-    let new = (name_more text more d.names.lanes name h.0).new in
-    (named_name text more name h.0.short.part g, none_is _ (ap (place_of (bytes_of (text ++ more) name)) (sym names.lanes) ∙ new))
+said_more text more k d (entry.Lane name whom) names h g = grind (arith, common_steps, named_name, none_is, name_more)
 said_more text more k d (entry.Line line) names h g = g
 
 pub grown : (source : List ℕ) (k : ℕ) (d : DraftValue) (e : Entry) → IsGrowing source k d → IsEntry source d e → IsNewlyNamed source k e → k < length source + 2

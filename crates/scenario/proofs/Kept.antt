@@ -4,6 +4,7 @@ use Rattle.std.specs.Prelude.{slice_get}
 use Rattle.std.proofs.lemmas.List.{length-set, map_push, map-set}
 use Rattle.std.proofs.lemmas.List.Elements.{All-nil, All-push, All-same, All-set}
 use Rattle.std.proofs.lemmas.Option.{slice_get_within, slice_get-map, get_or_from_slice_get}
+use Rattle.std.proofs.lemmas.Grind.{common_steps}
 use Rattle.writer_meta.specs.Metadata.{meta_of}
 use Rattle.scenario.specs.declared.span.Span.{Span}
 use Rattle.scenario.specs.declared.area_row.AreaRow.{AreaRow}
@@ -105,25 +106,7 @@ shared n d row a name slots (Some i) h limits few small none found number same =
 
 pub within_after : (text : List ℕ) (d : DraftValue) (e : Entry) → IsWithin (length text) d.said → IsEntry text d e → IsWithin (length text) (after d.said (saying_in e))
 within_after text d entry.Skipped h g = h
-within_after text d entry.Opening h g =
-    record {
-      areas = h.areas;
-      few_areas = h.few_areas;
-      volumes = h.volumes;
-      few_volumes = h.few_volumes;
-      groups = h.groups;
-      few_groups = h.few_groups;
-      in_groups = h.in_groups;
-      numbered = h.numbered;
-      small = h.small;
-      writers = h.writers;
-      few_writers = h.few_writers;
-      few_answers = h.few_answers;
-      lanes = h.lanes;
-      few_lanes = h.few_lanes;
-      few_lines = h.few_lines;
-      few_agendas = h.few_agendas;
-    }
+within_after text d entry.Opening h g = grind (arith, common_steps)
 within_after text d (entry.Area area) h g =
     record {
       areas = All-push (IsAreaRow (length text) d.said.groups) d.said.areas (new_area area) h.areas (record { declared = g.limits; group = tt });
@@ -144,12 +127,10 @@ within_after text d (entry.Area area) h g =
       few_agendas = h.few_agendas;
     }
 within_after text d (entry.OwnVolume row) h g =
-    let v = g.0 in
-    new_group (length text) d.said row (own_group row) d.said.areas (row.blocks + row.slots) h v.limits (record { name = v.limits.name; few_slots = v.limits.few_slots }) v.few g.1 refl v.small v.before_lanes
-    (areas_with_more_groups (length text) d.said.groups (own_group row) d.said.areas h.areas) refl
+    let v = g.0 in let fact = new_group (length text) d.said row (own_group row) d.said.areas (row.blocks + row.slots) h v.limits in
+    grind (arith, common_steps, areas_with_more_groups (length text) d.said.groups (own_group row) d.said.areas h.areas)
 within_after text d (entry.SharedVolume row a area) h g =
-    let v = g.0 in
-    shared (length text) d.said row a area.name area.slots area.group h v.limits v.few v.small v.before_lanes g.1.found g.1.group g.1.slots
+    let v = g.0 in grind (arith, common_steps, shared (length text) d.said row a area.name area.slots area.group h v.limits v.few v.small v.before_lanes)
 within_after text d (entry.Writer name metadata) h g =
     let writer : WriterPlan = record { name = name; meta = meta_of metadata; script = [] } in
     record {

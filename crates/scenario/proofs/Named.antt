@@ -1,14 +1,15 @@
 -- Each scenario that is read has names by the grammar, those of volumes, of writers and of lanes apart, and its lines are numbered by
 -- the lines of its text.
-use Rattle.std.proofs.Common.{◌≡◌, ◌∙◌, ℕ, zero, suc, ◌+◌, ◌<◌, ◌≤◌, Bool, true, false, List, [], ◌∷◌, ◌++◌, length, map, Option, Some, Result, Ok, Err, refl, ap, sym, subst, arith, cond}
+use Rattle.std.proofs.Common.{◌≡◌, ◌∙◌, ℕ, zero, suc, ◌+◌, ◌<◌, ◌≤◌, Bool, true, false, List, [], ◌∷◌, ◌++◌, length, map, Option, Result, Ok, Err, refl, ap, sym, subst, arith}
 use Rattle.std.specs.Prelude.{◌==◌, is_some, if◌then◌else◌}
 use Rattle.std.specs.List.{position_from}
 use Rattle.std.specs.Str.{bytes_eq}
 use Rattle.std.proofs.lemmas.Iterator.Adapters.{position_from-zero}
 use Rattle.std.proofs.lemmas.Slice.Eq.{bytes_eq-Decides}
+use Rattle.std.proofs.lemmas.Grind.{common_steps}
 use Rattle.writer_calls.specs.declared.scripted.Scripted.{Scripted}
 use Rattle.scenario.specs.declared.reason.Reason.{Reason}
-use Rattle.scenario.specs.declared.reason.Reason.TheVariants.{Empty, TooMany}
+use Rattle.scenario.specs.declared.reason.Reason.TheVariants.{Empty}
 use Rattle.scenario.specs.declared.span.Span.{Span}
 use Rattle.scenario.specs.declared.text_line.TextLine.{TextLine}
 use Rattle.scenario.specs.declared.volume_row.VolumeRow.{VolumeRow}
@@ -22,10 +23,10 @@ use Rattle.vss_names.specs.Names.{is_name}
 use Rattle.scenario.specs.Names.{volume_names, writer_names, lane_names, volume_named, writer_named, lane_named}
 use Rattle.scenario.specs.Lines.{span_from, lines_from, lines_in}
 use Rattle.scenario.specs.Fields.{bytes_of, span_of}
-use Rattle.scenario.specs.Ops.{◌>>=◌, op_of}
-use Rattle.scenario.specs.SoFar.{SoFar, Saying, Skipped, Opening, Area, OwnVolume, SharedVolume, Writer, Answer, Lane, Line, nothing, after, with_answer, with_line, closed, closed_lane, plan_in, line_count, agenda_count}
+use Rattle.scenario.specs.Ops.{◌>>=◌}
+use Rattle.scenario.specs.SoFar.{SoFar, Saying, Skipped, Opening, Area, OwnVolume, SharedVolume, Writer, Answer, Lane, Line, nothing, after, with_answer, with_line, closed, closed_lane, plan_in}
 use Rattle.scenario.specs.Declarations.{name_field, opening_of, area_of, own_volume_of, shared_volume_of, volume_of, writer_of, answer_of, free_lane_of, acting_lane_of, lane_of}
-use Rattle.scenario.specs.Entries.{has_line_room, line_of, row_of, placed_row_of, said_of, saying_of}
+use Rattle.scenario.specs.Entries.{line_of, row_of, placed_row_of, said_of, saying_of}
 use Rattle.scenario.specs.Grammar.{IsScenario, IsBad, goes_on, read_from, reading_of}
 use Rattle.scenario.specs.Named.{AllNamed, Differ, Distinct, volume_spans, writer_spans, lane_spans, Numbered, AllNumbered, IsNamed, HasNames}
 
@@ -116,8 +117,7 @@ lane_said text d number _ = tt
 
 line_said : (text : List ℕ) (d : SoFar) (number : ℕ) (w : Word) (fields : Fields) → IsGood (IsSaid text d number) (line_of text d number w fields)
 unfolding line_of
-line_said text d number w fields =
-    on_bind (IsSaid text d number) (op_of text d.volumes d.writers w fields) _ (λ op e. on_either (IsSaid text d number) (has_line_room (line_count d.lanes) (agenda_count d.lanes) op) (Ok (Line (record { number = number; op = op }))) (Err TooMany) refl tt)
+line_said text d number w fields = grind (arith, common_steps, on_bind, on_either)
 
 pub word_said : (text : List ℕ) (d : SoFar) (number : ℕ) (w : Word) (fields : Fields) → IsGood (IsSaid text d number) (row_of text d number w fields)
 unfolding row_of
@@ -163,12 +163,7 @@ swapped a b e = grind (arith, bytes_eq-Decides)
 
 absent_from : {X : Type 0} (text name : List ℕ) (f : X → Span) (n : ℕ) (xs : List X) → is_some (position_from (λ other. bytes_eq name other) n (map (λ x. bytes_of text (f x)) xs)) ≡ false → Absent text name (map f xs)
 absent_from text name f n [] e = tt
-absent_from text name f n (x ∷ xs) e = by_first (bytes_eq name (bytes_of text (f x))) refl e (absent_from text name f (n + 1) xs)
-  where
-    by_first : (b : Bool) → bytes_eq name (bytes_of text (f x)) ≡ b → is_some (cond b (Some n) (position_from (λ other. bytes_eq name other) (n + 1) (map (λ y. bytes_of text (f y)) xs))) ≡ false
-        → (is_some (position_from (λ other. bytes_eq name other) (n + 1) (map (λ y. bytes_of text (f y)) xs)) ≡ false → Absent text name (map f xs)) → (bytes_eq (bytes_of text (f x)) name ≡ false) × Absent text name (map f xs)
-    by_first true g h later = absurd cc
-    by_first false g h later = (swapped name (bytes_of text (f x)) g, later h)
+absent_from text name f n (x ∷ xs) e = grind (arith, common_steps, swapped, absent_from text name f (n + 1) xs)
 
 absent_volume : (text name : List ℕ) (rows : List VolumeRow) → is_some (volume_named text rows name) ≡ false → Absent text name (volume_spans rows)
 unfolding volume_named
@@ -209,8 +204,7 @@ all_numbered_lane k [] lane h e = (subst (Numbered k) (sym e) tt, tt)
 all_numbered_lane k (x ∷ lanes) lane h e = (h.0, all_numbered_lane k lanes lane h.1 e)
 
 spans_more : {X : Type 0} (f : X → Span) (xs : List X) (x : X) → map f (xs ++ x ∷ []) ≡ map f xs ++ f x ∷ []
-spans_more f [] x = refl
-spans_more f (y ∷ xs) x = ap (λ s. f y ∷ s) (spans_more f xs x)
+spans_more f xs x = grind (arith, common_steps)
 
 spans_line : (l : LaneLine) (lanes : List LanePlan) → lane_spans (with_line l lanes) ≡ lane_spans lanes
 spans_line l (x ∷ y ∷ lanes) = ap (λ s. x.name ∷ s) (spans_line l (y ∷ lanes))
@@ -229,46 +223,10 @@ pub named_after : (text : List ℕ) (k : ℕ) (d : SoFar) (saying : Saying) → 
 named_after text k d Skipped said h = record { volumes = h.volumes; writers = h.writers; lanes = h.lanes; volumes_apart = h.volumes_apart; writers_apart = h.writers_apart; lanes_apart = h.lanes_apart; lines = all_numbered_on k d.lanes h.lines }
 named_after text k d Opening said h = record { volumes = h.volumes; writers = h.writers; lanes = h.lanes; volumes_apart = h.volumes_apart; writers_apart = h.writers_apart; lanes_apart = h.lanes_apart; lines = all_numbered_on k d.lanes h.lines }
 named_after text k d (Area area) said h = record { volumes = h.volumes; writers = h.writers; lanes = h.lanes; volumes_apart = h.volumes_apart; writers_apart = h.writers_apart; lanes_apart = h.lanes_apart; lines = all_numbered_on k d.lanes h.lines }
-named_after text k d (OwnVolume row) said h = record {
-  volumes = subst (AllNamed text) (sym (spans_more (λ (r : VolumeRow). r.name) d.volumes row)) (named_more text (volume_spans d.volumes) row.name h.volumes said.0);
-  writers = h.writers;
-  lanes = h.lanes;
-  volumes_apart = subst (Distinct text) (sym (spans_more (λ (r : VolumeRow). r.name) d.volumes row)) (distinct_more text (volume_spans d.volumes) row.name h.volumes_apart (absent_volume text (bytes_of text row.name) d.volumes said.1));
-  writers_apart = h.writers_apart;
-  lanes_apart = h.lanes_apart;
-  lines = all_numbered_on k d.lanes h.lines;
-}
-named_after text k d (SharedVolume row a area) said h = record {
-  volumes = subst (AllNamed text) (sym (spans_more (λ (r : VolumeRow). r.name) d.volumes row)) (named_more text (volume_spans d.volumes) row.name h.volumes said.0);
-  writers = h.writers;
-  lanes = h.lanes;
-  volumes_apart = subst (Distinct text) (sym (spans_more (λ (r : VolumeRow). r.name) d.volumes row)) (distinct_more text (volume_spans d.volumes) row.name h.volumes_apart (absent_volume text (bytes_of text row.name) d.volumes said.1));
-  writers_apart = h.writers_apart;
-  lanes_apart = h.lanes_apart;
-  lines = all_numbered_on k d.lanes h.lines;
-}
-named_after text k d (Writer w) said h =
-    let more = spans_more (λ (x : WriterPlan). x.name) d.writers w in
-    record {
-      volumes = h.volumes;
-      volumes_apart = h.volumes_apart;
-      writers = subst (AllNamed text) (sym more) (named_more text (writer_spans d.writers) w.name h.writers said.0);
-      lanes = h.lanes;
-      writers_apart = subst (Distinct text) (sym more) (distinct_more text (writer_spans d.writers) w.name h.writers_apart (absent_writer text (bytes_of text w.name) d.writers said.1));
-      lanes_apart = h.lanes_apart;
-      lines = all_numbered_on k d.lanes h.lines;
-    }
-named_after text k d (Answer w row) said h =
-    let same = spans_answer w row d.writers in
-    record {
-      volumes = h.volumes;
-      volumes_apart = h.volumes_apart;
-      writers = subst (AllNamed text) (sym same) h.writers;
-      lanes = h.lanes;
-      writers_apart = subst (Distinct text) (sym same) h.writers_apart;
-      lanes_apart = h.lanes_apart;
-      lines = all_numbered_on k d.lanes h.lines;
-    }
+named_after text k d (OwnVolume row) said h = grind (arith, common_steps, all_numbered_on, spans_more, named_more, distinct_more, absent_volume)
+named_after text k d (SharedVolume row a area) said h = grind (arith, common_steps, all_numbered_on, spans_more, named_more, distinct_more, absent_volume)
+named_after text k d (Writer w) said h = grind (arith, common_steps, all_numbered_on, spans_more, named_more, distinct_more, absent_writer)
+named_after text k d (Answer w row) said h = grind (arith, common_steps, all_numbered_on, spans_answer)
 named_after text k d (Lane name whom) said h =
     let lane : LanePlan = record { name = name; acts_as = whom; lines = [] } in
     let more = spans_more (λ (x : LanePlan). x.name) d.lanes lane in
@@ -321,15 +279,7 @@ few_last b line = grind arith
 
 few_lines : (start at : ℕ) (text : List ℕ) → length (lines_from start at text) ≤ length text + 1
 few_lines start at [] = few_last (start == at) (record { span = span_from start at; ended = false })
-few_lines start at (byte ∷ text) =
-    as_long (length (lines_from start at (byte ∷ text))) (length text)
-    (few_if (byte == 10) (record { span = span_from start at; ended = true }) (lines_from (at + 1) (at + 1) text) (lines_from start (at + 1) text) (length text + 1) (few_lines (at + 1) (at + 1) text) (longer (length (lines_from start (at + 1) text)) (length text) (few_lines start (at + 1) text)))
-  where
-    as_long : (n m : ℕ) → n ≤ m + 1 + 1 → n ≤ suc m + 1
-    as_long n m h = omega arith
-
-    longer : (n m : ℕ) → n ≤ m + 1 → n ≤ m + 1 + 1
-    longer n m h = omega arith
+few_lines start at (byte ∷ text) = grind (arith, common_steps, few_if, few_lines (at + 1) (at + 1) text, few_lines start (at + 1) text)
 
 -- ## the plan
 

@@ -7,6 +7,7 @@ use Rattle.std.proofs.lemmas.List.Quantifiers.{position-Some}
 use Rattle.std.proofs.lemmas.List.Sums.{fails_before_first}
 use Rattle.std.proofs.lemmas.Option.{slice_get-get_or}
 use Rattle.std.proofs.lemmas.Bool.Decides.{nat_tests}
+use Rattle.std.proofs.lemmas.Bool.{and_parts}
 use Rattle.scenario.specs.declared.place.Place.{Place}
 use Rattle.scenario.specs.declared.volume_row.VolumeRow.{VolumeRow}
 use Rattle.scenario.specs.Places.{count_if, place_in, volume_after, volume_in, is_place, IsPlaceIn, ArePlaces}
@@ -49,16 +50,14 @@ next_is : (n : ℕ) → suc n ≡ n + 1
 next_is n = omega arith
 
 pub counted_one : (g : ℕ) (rows : List VolumeRow) (v n : ℕ) (r : VolumeRow) → slice_get rows v ≡ Some r → r.group ≡ g → IsCounted g rows v n → IsCounted g rows (v + 1) (n + 1)
-counted_one g rows v n r e is h = (
-  sym (next_is n) ∙ ap (λ k. suc k) h.0 ∙ sym (count_yes (r.group == g) (place_in g rows v) (same_number r.group g is)) ∙ sym (place_more g rows v r e) ∙ ap (place_in g rows) (next_is v),
-  let l = h.1 in omega arith,
-)
+counted_one g rows v n r e is h =
+    let fact = count_yes (r.group == g) (place_in g rows v) (same_number r.group g is) in
+    grind (arith, common_steps, next_is n, next_is v, same_number r.group g is, place_more g rows v r e)
 
 pub passed_one : (g : ℕ) (rows : List VolumeRow) (v n : ℕ) (r : VolumeRow) → slice_get rows v ≡ Some r → (r.group ≡ g → ⊥) → IsCounted g rows v n → IsCounted g rows (v + 1) n
-passed_one g rows v n r e is h = (
-  h.0 ∙ sym (count_no (r.group == g) (place_in g rows v) (other_number r.group g is)) ∙ sym (place_more g rows v r e) ∙ ap (place_in g rows) (next_is v),
-  let l = h.1 in omega arith,
-)
+passed_one g rows v n r e is h =
+    let fact = count_no (r.group == g) (place_in g rows v) (other_number r.group g is) in
+    grind (arith, common_steps, other_number r.group g is, place_more g rows v r e, next_is v)
 
 -- ## one place after the other is listed
 
@@ -100,18 +99,11 @@ place_found g u (q ∷ rows) low = by_test (q.group == g) refl u low (λ w l. pl
 pub one_place : (rows : List VolumeRow) (v g u k w : ℕ) → IsPlaceIn rows v g u → IsPlaceIn rows v k w → (k ≡ g) × (w ≡ u)
 one_place rows v g u k w a b = grind arith
 
-both : (a b : Bool) → (a && b) ≡ true → (a ≡ true) × (b ≡ true)
-both a b e = grind arith
-
 pub found_place : (rows : List VolumeRow) (places : List Place) (p : Place) (v : ℕ) → ArePlaces rows (length rows) places → position (is_place p) places ≡ Some v → v ≡ volume_in p.group rows p.volume
 found_place rows places p v are is =
-    let at = position-Some (is_place p) places v p is in
-    let q = get_or places v p in
-    let tests = both (q.group == p.group) (q.volume == p.volume) at.1 in
-    let there = are.each v q (slice_get-get_or places v p at.0) in
-    sym (volume_is rows v p.group p.volume
-    (subst (λ (k : ℕ). IsPlaceIn rows v k p.volume) (number_is q.group p.group tests.0)
-    (subst (λ (k : ℕ). IsPlaceIn rows v q.group k) (number_is q.volume p.volume tests.1) there)))
+    let at = position-Some (is_place p) places v p is in let q = get_or places v p in let tests = and_parts (q.group == p.group) (q.volume == p.volume) at.1 in
+    let fact = number_is q.volume p.volume tests.1 in
+    grind (arith, common_steps, slice_get-get_or places v p at.0, volume_is rows v p.group p.volume, number_is q.group p.group tests.0)
 
 volume_within : (g u : ℕ) (rows : List VolumeRow) → volume_in g rows u ≤ length rows
 volume_within g u [] = omega arith

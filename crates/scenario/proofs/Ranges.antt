@@ -1,7 +1,8 @@
 -- A part of a text, one byte on.
-use Rattle.std.proofs.Common.{◌≡◌, ℕ, ◌+◌, ◌<◌, ◌≤◌, ◌==◌, Bool, true, false, List, [], ◌∷◌, length, get_or, refl, arith}
-use Rattle.std.specs.Prelude.{slice_range, if◌then◌else◌}
+use Rattle.std.proofs.Common.{◌≡◌, ℕ, ◌+◌, ◌<◌, ◌≤◌, ◌==◌, true, false, List, [], ◌∷◌, length, get_or, refl, arith}
+use Rattle.std.specs.Prelude.{slice_range}
 use Rattle.std.proofs.lemmas.List.{drop_more}
+use Rattle.std.proofs.lemmas.Grind.{common_steps}
 use Rattle.scenario.specs.declared.span.Span.{Span}
 use Rattle.scenario.specs.declared.fields.Fields.TheVariants.{Many}
 use Rattle.scenario.specs.Lines.{span_from}
@@ -18,11 +19,7 @@ words_more text start at end below within other = rw (range_more text at end bel
 -- five words and more are many
 pub fields_many : (a b c d e : Span) (text : List ℕ) (start at : ℕ) → fields_of (a ∷ b ∷ c ∷ d ∷ e ∷ words_from start at text) ≡ Many
 fields_many a b c d e [] start at = refl
-fields_many a b c d e (byte ∷ text) start at =
-    let on : (t : Bool) → fields_of (a ∷ b ∷ c ∷ d ∷ e ∷ (if t then span_from start at ∷ words_from (at + 1) (at + 1) text else words_from start (at + 1) text)) ≡ Many =
-    λ t. elim t as (λ v. fields_of (a ∷ b ∷ c ∷ d ∷ e ∷ (if v then span_from start at ∷ words_from (at + 1) (at + 1) text else words_from start (at + 1) text)) ≡ Many)
-    [ true ↦ refl | false ↦ fields_many a b c d e text start (at + 1) ] in
-    on (byte == 32)
+fields_many a b c d e (byte ∷ text) start at = grind (arith, common_steps, fields_many a b c d e text start (at + 1))
 
 -- a space ends the word at hand
 pub words_end : (text : List ℕ) (start at end : ℕ) → at < end → end ≤ length text → (get_or text at 0 == 32) ≡ true →

@@ -1,7 +1,8 @@
 -- Whether a session stands after each line of a lane.
 use Rattle.std.proofs.Common.{◌≡◌, ◌&&◌, ◌||◌, Bool, true, not, List, [], ◌∷◌, ◌++◌, refl, arith}
+use Rattle.std.proofs.lemmas.Grind.{common_steps}
 use Rattle.scenario.specs.Plan.{LaneLine}
-use Rattle.scenario.specs.Bounds.{is_begin, is_end, has_end, ends_sessions}
+use Rattle.scenario.specs.Bounds.{is_begin, has_end, ends_sessions}
 use Rattle.scenario.specs.SoFar.{implied_end, closed}
 
 -- where a session stands, an `end` comes, and each later one ends too
@@ -12,8 +13,7 @@ or_true : (b : Bool) → (b || true) ≡ true
 or_true b = grind arith
 
 has_end_closed : (lines : List LaneLine) → has_end (lines ++ implied_end ∷ []) ≡ true
-has_end_closed [] = refl
-has_end_closed (line ∷ lines) = rw (has_end_closed lines) (or_true (is_end line.op))
+has_end_closed lines = grind (arith, common_steps, or_true)
 
 -- a further `end` ends each session
 pub ends_closed : (lines : List LaneLine) → ends_sessions (lines ++ implied_end ∷ []) ≡ true

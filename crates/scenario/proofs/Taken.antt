@@ -5,6 +5,7 @@ use Rattle.std.specs.List.{position_from, list_any}
 use Rattle.std.specs.Str.{bytes_eq}
 use Rattle.std.proofs.lemmas.List.{length-map, map-append}
 use Rattle.std.proofs.lemmas.Iterator.Adapters.{position_from-zero}
+use Rattle.std.proofs.lemmas.Grind.{common_steps}
 use Rattle.indexmap.specs.IndexSet.{insert_key}
 use Rattle.scenario.specs.declared.span.Span.{Span}
 use Rattle.scenario.specs.declared.field.Field.TheVariants.{Text}
@@ -53,8 +54,7 @@ absent-at eq k e i ks b h n f = grind arith
 absent-from : (eq : Key → Key → Bool) (k : Key) (i : ℕ) (ks : List Key) → ((x : Key) → eq k x ≡ bytes_eq k.items x.items) → position_from (λ other. bytes_eq k.items other) i (map items_of ks) ≡ None
     → list_any (eq k) ks ≡ false
 absent-from eq k i [] same n = refl
-absent-from eq k i (e ∷ ks) same n =
-    absent-at eq k e i ks (eq k e) refl (ap (λ b. cond b (Some i) (position_from (λ other. bytes_eq k.items other) (i + 1) (map items_of ks))) (same e) ∙ n) (absent-from eq k (i + 1) ks same)
+absent-from eq k i (e ∷ ks) same n = grind (arith, common_steps, absent-at, absent-from eq k (i + 1) ks same)
 
 -- a new name goes last
 pub insert_new : (eq : Key → Key → Bool) (k : Key) (name : List ℕ) (ks : List Key) (names : List (List ℕ)) → ((x : Key) → eq k x ≡ bytes_eq k.items x.items) → k.items ≡ name → map items_of ks ≡ names → place_of name names ≡ None

@@ -1,8 +1,9 @@
 -- The scenario of a whole text keeps to the limits.
-use Rattle.std.proofs.Common.{◌≡◌, ℕ, ◌+◌, ◌<◌, ◌≤◌, true, List, [], ◌∷◌, length, map, All, arith, length-append}
+use Rattle.std.proofs.Common.{◌≡◌, ℕ, ◌+◌, ◌<◌, ◌≤◌, true, List, [], ◌∷◌, length, map, All, arith}
 use Rattle.std.proofs.lemmas.List.{length-map}
 use Rattle.std.proofs.lemmas.List.Sums.{sum_by_push}
 use Rattle.std.proofs.lemmas.List.Elements.{All-nil, All-cons, All-head, All-tail, All-push}
+use Rattle.std.proofs.lemmas.Grind.{common_steps}
 use Rattle.scenario.specs.Plan.{Plan, LaneLine, LanePlan}
 use Rattle.scenario.specs.Bounds.{IsOp, IsLane, IsPlan, agenda_lines, ends_sessions}
 use Rattle.scenario.specs.SoFar.{SoFar, plan_in, closed, closed_lane, implied_end, line_count, agenda_count}
@@ -13,8 +14,7 @@ use Rattle.scenario.proofs.Changes.{lines_cons, agendas_cons}
 -- ## lanes with the `end` that they have not written
 
 closed_few : (lines : List LaneLine) → length (closed lines) ≤ length lines + 1
-closed_few lines =
-    closed_keeps (λ ls. length ls ≤ length lines + 1) lines (λ _. omega arith) (omega (arith, length-append lines (implied_end ∷ [])))
+closed_few lines = grind (arith, common_steps, closed_keeps)
 
 closed_agendas : (lines : List LaneLine) → agenda_lines (closed lines) ≤ agenda_lines lines
 closed_agendas lines = grind (arith, closed_keeps, sum_by_push)
@@ -24,13 +24,10 @@ closed_ends lines = closed_keeps (λ ls. ends_sessions ls ≡ true) lines (λ e.
 
 few_lines : (lanes : List LanePlan) → line_count (map closed_lane lanes) ≤ line_count lanes + length lanes
 few_lines [] = omega arith
-few_lines (lane ∷ lanes) =
-    omega (arith, lines_cons (closed_lane lane) (map closed_lane lanes), lines_cons lane lanes, closed_few lane.lines, few_lines lanes)
+few_lines (lane ∷ lanes) = grind (arith, common_steps, lines_cons, closed_few, few_lines lanes)
 
 few_agendas : (lanes : List LanePlan) → agenda_count (map closed_lane lanes) ≤ agenda_count lanes
-few_agendas [] = omega arith
-few_agendas (lane ∷ lanes) =
-    omega (arith, agendas_cons (closed_lane lane) (map closed_lane lanes), agendas_cons lane lanes, closed_agendas lane.lines, few_agendas lanes)
+few_agendas lanes = grind (arith, common_steps, agendas_cons, closed_agendas)
 
 lane_is : (s : Plan) (lane : LanePlan) → IsLaneRow (length s.source) s.volumes (length s.writers) lane → length lane.lines ≤ 100000 → IsLane s (closed_lane lane)
 lane_is s lane h few =
@@ -55,18 +52,4 @@ lanes_are s (lane ∷ lanes) h few =
 pub plan_is : (text : List ℕ) (d : SoFar) → length text < 4294967295 → IsWithin (length text) d → IsPlan (plan_in text d)
 plan_is text d short h =
     let s : Plan = plan_in text d in
-    record {
-      short = short;
-      volumes = h.volumes;
-      few_volumes = h.few_volumes;
-      groups = h.groups;
-      few_groups = let few : length d.groups ≤ length d.volumes = h.few_groups in let most : length d.volumes ≤ 128 = h.few_volumes in omega arith;
-      grouped = record { rows = h.in_groups; numbered = h.numbered };
-      writers = h.writers;
-      few_answers = h.few_answers;
-      lanes = lanes_are s d.lanes h.lanes h.few_lines;
-      few_lanes = let few : length d.lanes ≤ 64 = h.few_lanes in omega (arith, length-map d.lanes closed_lane);
-      few_writers = h.few_writers;
-      few_lines = let few : line_count d.lanes ≤ 100000 = h.few_lines in let most : length d.lanes ≤ 64 = h.few_lanes in omega (arith, few_lines d.lanes);
-      few_agendas = let few : agenda_count d.lanes ≤ 2000 = h.few_agendas in omega (arith, few_agendas d.lanes);
-    }
+    grind (arith, common_steps, lanes_are s d.lanes h.lanes h.few_lines, few_lines d.lanes, length-map d.lanes closed_lane, few_agendas d.lanes)

@@ -8,21 +8,25 @@ use Rattle.set_agenda.specs.declared.kind.Kind.TheVariants as kind
 use Rattle.requestor.specs.declared.session_call.SessionCall.TheVariants as call
 use Rattle.scenario.specs.declared.op.Op.TheVariants as op
 use Rattle.vss_model.specs.declared.told.Told.TheVariants as told
-use Rattle.vss_model.specs.Sessions.{line_in, pending, has_no_volume, volumes_of, is_disabled}
-use Rattle.sessions.proofs.Lines.{line_of, refuses}
+use Rattle.vss_model.specs.Sessions.{has_no_volume, volumes_of, is_disabled}
+use Rattle.vss_model.proofs.StateForm.{line_in, pending}
+use Rattle.vss_model.specs.Changes.{after_changes, goes_on}
+use Rattle.vss_model.proofs.Changes.{goes_on_own}
+use Rattle.sessions.proofs.Lines.{does_so, line_of, refuses, says_so}
 
 -- what began, as a line
 pub pends : {s : Plan} {lane : ℕ} {op_ : Op} {st : State} {new : SessionsValue} {m : SessionMove} (c : Course) → line_in s lane op_ st.session st ≡ pending c st
-    → CameTo (told.Result AsyncPending) st (followed true c st) new m → ComesTo s lane op_ st new m
-pends {st = st} c does came = record {
+    → CameTo (told.Result AsyncPending) st (after_changes st (goes_on true c st)) new m → ComesTo s lane op_ st new m
+pends {s = s} {lane = lane} {op_ = op_} {st = st} {new = new} {m = m} c does came = record {
   told = told.Result AsyncPending;
   reply = Coded AsyncPending;
   after = followed true c st;
-  does = does;
+  says = says_so s lane op_ st _ _ does;
+  does = does_so s lane op_ st _ _ does;
   fits = λ tells. refl;
   lists = λ listed rows e. tt;
   clean = refl;
-  came = came;
+  came = subst (λ x. CameTo (told.Result AsyncPending) st x new m) (goes_on_own true c st) came;
 }
 
 -- ## complete and snapshot

@@ -8,10 +8,13 @@ use Rattle.std.specs.Prelude.{All, ◌&&◌, ◌||◌, not, is_some, find, optio
 use Rattle.set_agenda.specs.WriterSet.{writers, writers_of}
 use Rattle.set_agenda.specs.Course.{Course, failed as course_failed}
 use Rattle.vss_model.specs.declared.told.Told.TheVariants as told
-use Rattle.vss_model.specs.Ending.{Ending, AgendaEnds, NothingEnds, SetFails, ending, row_settled, followed, concluded, failed_in, images_dropped}
+use Rattle.vss_model.specs.Ending.{Ending, AgendaEnds, NothingEnds, SetFails, ending, row_settled}
+use Rattle.vss_model.proofs.StateForm.{followed, concluded, failed_in, images_dropped}
 use Rattle.sessions.proofs.Newest.{changed_none, current_bare, settled_bare}
 use Rattle.sessions.proofs.Keeping.{keeps_course, keeps_rows}
 use Rattle.sessions.proofs.Disabled.{disabled_failed}
+use Rattle.vss_model.specs.Changes.{after_changes, fails}
+use Rattle.vss_model.proofs.Changes.{fails_now, goes_on_own}
 
 pub nobody : writers_of 0 ≡ []
 unfolding writers
@@ -135,18 +138,18 @@ lost_as t e ran gone at c d found hs after new m tells h = grind arith
 pub concluded_then : (old new : SessionsValue) (t : Told) (e : Effects) (current : Option ℕ) (m : SessionMove) → (has_failed e.outcome || e.agenda_ended) ≡ true → new ≡ ended_so e.outcome old
     → current ≡ current_of old.sets → m ≡ told_of t e.lost e.lost_order (ends_as current e.outcome) → Concludes t e old new m
 concluded_then old new t e current m h is at moved st c ran gone order_of order kept tells =
-    lost_as t e ran gone order_of st.course c _ _ _ new m tells
+    subst (λ y. HasCome t gone order_of (in_progress st) st.volumes y new m) (sym (goes_on_own ran c st)) (lost_as t e ran gone order_of st.course c _ _ _ new m tells
     (subst (λ (x : SessionsValue). HasCome t (writers_of e.lost) e.lost_order (in_progress st) st.volumes (followed ran c st) x m) (sym is)
     (subst (λ (x : SessionMove). HasCome t (writers_of e.lost) e.lost_order (in_progress st) st.volumes (followed ran c st) (ended_so e.outcome old) x)
     (sym (moved ∙ ap (λ (n : Option ℕ). told_of t e.lost e.lost_order (ends_as n e.outcome)) (at ∙ current_kept old (record st { course = c }) kept)))
-    (then_ends old st c order kept t e ran tells.outcome tells.agenda_ended h)))
+    (then_ends old st c order kept t e ran tells.outcome tells.agenda_ended h))))
 
 pub concluded_else : (old : SessionsValue) (t : Told) (e : Effects) (m : SessionMove) → (has_failed e.outcome || e.agenda_ended) ≡ false → m ≡ told_of t e.lost e.lost_order nothing_ends
     → Concludes t e old old m
 concluded_else old t e m h moved st c ran gone order_of order kept tells =
-    lost_as t e ran gone order_of st.course c _ _ _ old m tells
+    subst (λ y. HasCome t gone order_of (in_progress st) st.volumes y old m) (sym (goes_on_own ran c st)) (lost_as t e ran gone order_of st.course c _ _ _ old m tells
     (subst (λ (x : SessionMove). HasCome t (writers_of e.lost) e.lost_order (in_progress st) st.volumes (followed ran c st) old x) (sym moved)
-    (then_goes_on old st c order kept t e ran tells.outcome tells.agenda_ended h))
+    (then_goes_on old st c order kept t e ran tells.outcome tells.agenda_ended h)))
 
 -- ## the set in progress fails
 
@@ -159,8 +162,8 @@ outcome_failed why c = refl
 
 pub fails_so : (old new : SessionsValue) (k : CoordinatorState) (st : State) (why : VssResult) (n : ℕ) (m : SessionMove) → IsInOrder st → Keeps old st → Some n ≡ current_of old.sets
     → Stands k (failed_if_running st.course.outcome why st.course) → KeepsWriters old.coordinator k → IsOnTime old.clock k → new ≡ ended_so (Failed why) (record old { coordinator = k })
-    → m ≡ told_of told.Ok 0 None (ends_as (Some n) (Failed why)) → CameTo told.Ok st (failed_in (in_progress st) why st) new m
-fails_so old new k st why n m order kept current stands writers times is moved = by_found (in_progress st) refl
+    → m ≡ told_of told.Ok 0 None (ends_as (Some n) (Failed why)) → CameTo told.Ok st (after_changes st (fails (in_progress st) why st)) new m
+fails_so old new k st why n m order kept current stands writers times is moved = subst (λ x. CameTo told.Ok st x new m) (sym (fails_now why st)) (by_found (in_progress st) refl)
   where
     known : Some n ≡ current_of st.sets
     known = current ∙ current_kept old st kept
@@ -182,5 +185,7 @@ fails_so old new k st why n m order kept current stands writers times is moved =
 
 -- no set is in progress
 pub fails_not : (x : SessionsValue) (st : State) (why : VssResult) (m : SessionMove) → IsInOrder st → Keeps x st → None ≡ current_of x.sets → m ≡ told_alone told.Ok
-    → CameTo told.Ok st (failed_in (in_progress st) why st) x m
-fails_not x st why m order kept current is = grind (arith, no_row, current_kept, nobody, no_end)
+    → CameTo told.Ok st (after_changes st (fails (in_progress st) why st)) x m
+fails_not x st why m order kept current is = subst (λ y. CameTo told.Ok st y x m) (sym (fails_now why st)) stays where
+  stays : CameTo told.Ok st (failed_in (in_progress st) why st) x m
+  stays = grind (arith, no_row, current_kept, nobody, no_end)

@@ -12,8 +12,11 @@ use Rattle.writer_calls.specs.declared.answer.Answer.{Answer}
 use Rattle.set_agenda.specs.declared.group.Group.TheVariants as group
 use Rattle.set_agenda.specs.Course.{Course, sent, lost_writers, answered as course_answered, stepped as course_stepped, timed as course_timed}
 use Rattle.vss_model.specs.declared.told.Told.TheVariants as told
-use Rattle.vss_model.specs.Steps.{answered, stepped, stepped_as, step_made, cut_set, row_cut, with_cut, is_flush, is_failed_step, later, ticked}
-use Rattle.vss_model.specs.Effects.{ended_of}
+use Rattle.vss_model.specs.Steps.{row_cut, with_cut, is_flush, is_failed_step}
+use Rattle.vss_model.proofs.StateForm.{answered, stepped, stepped_as, step_made, cut_set, later, ticked}
+use Rattle.vss_model.specs.Effects.{ended_of, lost_after, lost_order_if}
+use Rattle.vss_model.specs.Changes.{after_changes, cuts_at, steps}
+use Rattle.vss_model.proofs.Changes.{goes_on_own, passes_are, cuts_are, steps_are}
 use Rattle.sessions.proofs.Keeping.{keeps_course, keeps_rows}
 use Rattle.sessions.proofs.Moving.{Happens}
 use Rattle.sessions.proofs.Newest.{changed_bare, changed_by_number, changed_none}
@@ -30,7 +33,8 @@ pub goes_on : (x new : SessionsValue) (k : CoordinatorState) (st : State) (to : 
 goes_on x new k st to gone at now ran t e m tick order kept stands writers times disabled tells concludes =
     let on_time = subst (λ (n : ℕ). IsOnTime n k) tick (times (subst (λ (n : ℕ). IsOnTime n x.coordinator) (sym tick) kept.on_time)) in
     let mid = keeps_course x k st (to now) kept stands writers.count on_time (subst (λ (ds : List ℕ). All (λ w. w < writer_count x.coordinator) ds) (sym disabled) kept.disabled) in
-    subst (λ (n : ℕ). HasCome t (gone n) (at n) (in_progress st) st.volumes (followed ran (to n) st) new m) (tick ∙ kept.clock) (concludes st (to now) ran (gone now) (at now) order mid tells)
+    subst (λ (n : ℕ). HasCome t (gone n) (at n) (in_progress st) st.volumes (followed ran (to n) st) new m) (tick ∙ kept.clock)
+    (subst (λ y. HasCome t (gone now) (at now) (in_progress st) st.volumes y new m) (goes_on_own ran (to now) st) (concludes st (to now) ran (gone now) (at now) order mid tells))
 
 -- ## a writer answers
 
@@ -87,16 +91,26 @@ set_in x st (Some r) now e clock order kept = keeps_rows x st x.requestor st.ses
     ∙ ap (map bare) (ap (λ (t : ℕ). map (running_changed (with_cut t)) st.sets) clock ∙ changed_by_number (with_cut st.clock) 1 st.sets r order.numbered order.newest e))
 
 pub is_cut_now : (x : SessionsValue) (st : State) (g : Group) (now : ℕ) → is_cut_group (Some g) ≡ true → now ≡ x.clock → IsInOrder st → Keeps x st
-    → Keeps (record x { sets = map (running_changed (with_cut now)) x.sets }) (step_made (Some g) st)
-is_cut_now x st g now e clock order kept = grind (arith, set_in)
+    → Keeps (record x { sets = map (running_changed (with_cut now)) x.sets }) (after_changes st (cuts_at (Some g) st))
+is_cut_now x st g now e clock order kept = subst (Keeps _) (sym (cuts_are (Some g) st)) (made g e) where
+  made : (g : Group) → is_cut_group (Some g) ≡ true → Keeps (record x { sets = map (running_changed (with_cut now)) x.sets }) (step_made (Some g) st)
+  made g e = grind (arith, set_in)
 
 -- ## a step of the provider
+
+step_made_goes : (st : State) (g : Group) (v : Option ℕ) (new : SessionsValue) (m : SessionMove) → IsInOrder st
+    → ((x : State) → x ≡ step_made (Some g) st → IsInOrder x → HasCome (told.Step g v false) [] None (in_progress x) x.volumes (followed (runs x) (course_stepped true x.clock x.course) x) new m)
+    → HasCome (told.Step g v false) [] None (in_progress st) (step_made (Some g) st).volumes (stepped_as false (Some g) st) new m
+step_made_goes st g v new m order comes = grind (arith, besides)
 
 -- what a step that is made comes to, from the state after what it does beside its entry
 pub step_goes : (st : State) (g : Group) (v : Option ℕ) (new : SessionsValue) (m : SessionMove) → IsInOrder st
     → ((x : State) → x ≡ step_made (Some g) st → IsInOrder x → HasCome (told.Step g v false) [] None (in_progress x) x.volumes (followed (runs x) (course_stepped true x.clock x.course) x) new m)
-    → HasCome (told.Step g v false) [] None (in_progress st) (stepped_volumes false g st) (stepped_as false (Some g) st) new m
-step_goes st g v new m order comes = grind (arith, besides)
+    → HasCome (told.Step g v false) [] None (in_progress st) (stepped_volumes false g st) (after_changes st (steps false (Some g) st)) new m
+step_goes st g v new m order comes =
+    subst (λ x. HasCome (told.Step g v false) [] None (in_progress st) (stepped_volumes false g st) x new m) (sym (steps_are false (Some g) st))
+    (subst (λ (x : State). HasCome (told.Step g v false) [] None (in_progress st) x.volumes (stepped_as false (Some g) st) new m) (sym (cuts_are (Some g) st))
+    (step_made_goes st g v new m order comes))
 
 stepped_is : (mark : Mark) (st : State) → stepped mark st ≡ stepped_as (is_failed_step (is_flush (open_group (left_now st))) mark) (open_group (left_now st)) st
 unfolding stepped
@@ -110,7 +124,8 @@ allowed_if b fails h = grind arith
 
 pub step_happens : (s : Plan) (new : SessionsValue) (st : State) (g : Group) (v : Option ℕ) (fails : Bool) (m : SessionMove) → is_working (left_now st) ≡ true → open_group (left_now st) ≡ Some g
     → next_volume (left_now st) ≡ v
-    → (fails ≡ true → is_flush (Some g) ≡ true) → HasCome (told.Step g v fails) [] None (in_progress st) (stepped_volumes fails g st) (stepped_as fails (Some g) st) new m → Happens s st Provider new m
+    → (fails ≡ true → is_flush (Some g) ≡ true) → HasCome (told.Step g v fails) [] None (in_progress st) (stepped_volumes fails g st) (after_changes st (steps fails (Some g) st)) new m
+    → Happens s st Provider new m
 step_happens s new st g v fails m works at volume flushes came = record {
   told = told.Step g v fails;
   on = works;
@@ -125,7 +140,7 @@ step_happens s new st g v fails m works at volume flushes came = record {
   fits = λ tells. refl;
   lists = λ listed rows e. tt;
   evicts = refl;
-  came = came;
+  came = subst (λ x. HasCome (told.Step g v fails) [] None (in_progress st) (stepped_volumes fails g st) x new m) (steps_are fails (Some g) st) came;
 }
 
 -- ## time goes by
@@ -141,13 +156,23 @@ pub time_goes : (new : SessionsValue) (st : State) (t : Told) (n : ℕ) (m : Ses
     (followed (runs st) (course_timed (st.clock + n) st.course) (later n st)) new m
     → HasTicked t n st new m
 unfolding ticked
-time_goes new st t n m came = grind arith
+time_goes new st t n m came =
+    subst (λ x. HasCome t (lost_after (Some n) st) (lost_order_if (lost_after (Some n) st) (order_now (left_now st))) (in_progress st) st.volumes x new m) (sym (passes_are n st)) (goes came) where
+      goes : HasCome t (lost_writers (st.clock + n) st.course) (lost_order_kept (lost_writers (st.clock + n) st.course) (order_now (left st.course.agenda))) (in_progress st) st.volumes
+          (followed (runs st) (course_timed (st.clock + n) st.course) (later n st)) new m
+          → HasCome t (lost_after (Some n) st) (lost_order_if (lost_after (Some n) st) (order_now (left_now st))) (in_progress st) st.volumes (ticked n st) new m
+      goes came = grind arith
+
+at_ticked : (new : SessionsValue) (st : State) (t : Told) (n : ℕ) (m : SessionMove) → HasTicked t n st new m
+    → HasCome t (lost_after (Some n) st) (lost_order_if (lost_after (Some n) st) (order_now (left_now st))) (in_progress st) st.volumes (ticked n st) new m
+at_ticked new st t n m came =
+    subst (λ x. HasCome t (lost_after (Some n) st) (lost_order_if (lost_after (Some n) st) (order_now (left_now st))) (in_progress st) st.volumes x new m) (passes_are n st) came
 
 pub tick_happens : (s : Plan) (new : SessionsValue) (st : State) (lane n : ℕ) (m : SessionMove)
     → HasTicked told.Ok n st new m
     → Happens s st (Line lane (Tick n)) new m
 tick_happens s new st lane n m came =
-    record { told = told.Ok; on = refl; allowed = refl; reply = Fine; after = ticked n st; does = refl; fits = λ tells. refl; lists = λ listed rows e. tt; evicts = refl; came = came }
+    record { told = told.Ok; on = refl; allowed = refl; reply = Fine; after = ticked n st; does = refl; fits = λ tells. refl; lists = λ listed rows e. tt; evicts = refl; came = at_ticked new st told.Ok n m came }
 
 pub idle_happens : (s : Plan) (new : SessionsValue) (st : State) (n : ℕ) (m : SessionMove) → is_asking (left_now st) ≡ true → n ≡ idle_now st
     → HasTicked (told.Ticks n) n st new m → Happens s st Idle new m
@@ -161,7 +186,7 @@ idle_happens s new st n m asks is came = record {
   fits = λ tells. refl;
   lists = λ listed rows e. tt;
   evicts = refl;
-  came = subst (λ (k : ℕ). HasTicked (told.Ticks k) k st new m) is came;
+  came = at_ticked new st (told.Ticks (idle_now st)) (idle_now st) m (subst (λ (k : ℕ). HasTicked (told.Ticks k) k st new m) is came);
 }
 
 pub ticks_are : (b : Bool) (n m : ℕ) → Some n ≡ ticks_if b m → n ≡ m

@@ -9,8 +9,13 @@ use Rattle.std.specs.Prelude.{is_some, option_map, option_and_then, unwrap_or}
 use Rattle.requestor.specs.declared.session_call.SessionCall.TheVariants as call
 use Rattle.scenario.specs.declared.op.Op.TheVariants as op
 use Rattle.vss_model.specs.declared.told.Told.TheVariants as told
-use Rattle.vss_model.specs.Ending.{runs, failed}
-use Rattle.vss_model.specs.Sessions.{line_in, session_line, begin_in, start_set, new_set, new_number, images_released, closed, await_last}
+use Rattle.vss_model.specs.Ending.{runs}
+use Rattle.vss_model.proofs.StateForm.{Replied, failed, line_in, session_line, begin_in, start_set, images_released, closed, await_last}
+use Rattle.vss_model.specs.Sessions.{new_set, new_number}
+use Rattle.vss_model.specs.Changes.{after_changes}
+use Rattle.vss_model.specs.Sessions.{call_reply}
+use Rattle.vss_model.proofs.Changes.{line_is}
+use Rattle.sessions.specs.Moves.{changes_of}
 use Rattle.sessions.proofs.Concluding.{no_end, nobody}
 use Rattle.sessions.proofs.Keeping.{keeps_course, keeps_named, keeps_rows, closes}
 use Rattle.sessions.proofs.Newest.{append_bare}
@@ -19,13 +24,31 @@ use Rattle.sessions.proofs.Newest.{append_bare}
 pub line_of : (s : Plan) (lane : ℕ) (op : Op) (st : State) (q : Session) → st.session ≡ Some q → line_in s lane op st.session st ≡ session_line s lane op q st
 line_of s lane op st q e = ap (λ (o : Option Session). line_in s lane op o st) e
 
+-- what it is answered, and the state to which its changes lead
+pub says_so : (s : Plan) (lane : ℕ) (op : Op) (st : State) (reply : Reply) (after : State) → line_in s lane op st.session st ≡ (reply, after) → call_reply s op st.session st ≡ reply
+says_so s lane op st reply after e = ap (λ (x : Replied). x.0) (sym (line_is s st lane op st.session) ∙ e)
+
+pub does_so : (s : Plan) (lane : ℕ) (op : Op) (st : State) (reply : Reply) (after : State) → line_in s lane op st.session st ≡ (reply, after)
+    → after_changes st (changes_of s lane op st) ≡ after
+does_so s lane op st reply after e = ap (λ (x : Replied). x.1) (sym (line_is s st lane op st.session) ∙ e)
+
 -- ## a line that ends nothing
 
 pub alone : {s : Plan} {lane : ℕ} {op : Op} {st : State} {new : SessionsValue} {m : SessionMove} (t : Told) (reply : Reply) (after : State) → m ≡ told_alone t
     → line_in s lane op st.session st ≡ (reply, after)
     → ((tells : List Bool) → Fits tells reply t) → ((listed : List ℕ) (rows : List WriterRow) → rows ≡ after.course.rows → HasLists reply listed rows) → mark_of t ≡ Clean
     → EndsAs (ended_of (in_progress st) after.sets) 0 Running → after.volumes ≡ st.volumes → Keeps new after → ComesTo s lane op st new m
-alone t reply after is does fits lists clean ends volumes keeps = grind (arith, nobody)
+alone {s = s} {lane = lane} {op = op_} {st = st} {new = new} t reply after is does fits lists clean ends volumes keeps = record {
+  told = t;
+  reply = reply;
+  after = after;
+  says = says_so s lane op_ st reply after does;
+  does = does_so s lane op_ st reply after does;
+  fits = fits;
+  lists = lists;
+  clean = clean;
+  came = subst (CameTo t st after new) (sym is) (record { told = refl; lost = nobody; order = refl; ends = ends; volumes = volumes; keeps = keeps });
+}
 
 -- a refusal of the call's own
 pub refuses : {s : Plan} {lane : ℕ} {op : Op} {st : State} {x : SessionsValue} {m : SessionMove} (why : VssResult) → m ≡ told_alone (told.Result why)
@@ -121,7 +144,8 @@ aborts {s = s} {lane = lane} {st = st} owner came = record {
   told = told.Ok;
   reply = Fine;
   after = failed AsyncCancelled st;
-  does = line_of s lane op.Abort st owner.own owner.is;
+  says = says_so s lane op.Abort st _ _ (line_of s lane op.Abort st owner.own owner.is);
+  does = does_so s lane op.Abort st _ _ (line_of s lane op.Abort st owner.own owner.is);
   fits = λ tells. refl;
   lists = λ listed rows e. tt;
   clean = refl;
@@ -164,7 +188,8 @@ ends {s = s} {lane = lane} {st = st} {y = y} moved set owner kept came none is c
       told = told.Ok;
       reply = Fine;
       after = closed q (failed AsyncCancelled st);
-      does = line_of s lane op.End st q owner.is;
+      says = says_so s lane op.End st _ _ (line_of s lane op.End st q owner.is);
+      does = does_so s lane op.End st _ _ (line_of s lane op.End st q owner.is);
       fits = λ tells. refl;
       lists = λ listed rows e. tt;
       clean = refl;

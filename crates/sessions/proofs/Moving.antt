@@ -1,6 +1,6 @@
 -- From what an event comes to at a state, what is promised of it.
 use Rattle.sessions.proofs.Words.{Mark, Clean, WriterRow, VssResult, is_working, order_now, Verdict, Go, Blocked, Refused, SessionCall, check, check_other, left-is, runs-is, Op, Plan, Event}
-use Rattle.sessions.proofs.Words.{Line, Told, Reply, Coded, State, in_progress, left_now, runs, Replied, judged, Fits, mark_of, HasLists, IsOutcome, told_act, Goes, other_goes, SessionMove}
+use Rattle.sessions.proofs.Words.{Line, Told, Reply, Coded, State, in_progress, left_now, runs, EndsAs, Replied, judged, Fits, mark_of, HasLists, IsOutcome, told_act, Goes, other_goes, SessionMove}
 use Rattle.sessions.proofs.Words.{told_alone, SessionsValue, Keeps, IsInOrder, IsMove, CameTo, ComesTo, HasCome, after_move, event_volumes, images_after, after_enabled}
 use Rattle.std.proofs.Common.{◌≡◌, ◌⊎◌, ℕ, List, [], refl, ap, sym, ◌∙◌, subst, Bool, true, false, Option, Some, None, arith}
 use Rattle.std.specs.Prelude.{not}
@@ -8,9 +8,13 @@ use Rattle.coordinator.specs.Coordinator.{CoordinatorState, Stands, runs as runs
 use Rattle.scenario.specs.declared.line.Line.{Line as Does}
 use Rattle.scenario.specs.Calls.{call_in, call_of, line_of, target_of}
 use Rattle.vss_model.specs.declared.told.Told.TheVariants as told
-use Rattle.vss_model.specs.Lines.{called, does, line}
-use Rattle.vss_model.specs.Acts.{enabled, event_allows, happens, after, line_enabled, line_allows, may_call, is_blocked}
-use Rattle.vss_model.specs.Effects.{evicted, evicted_at, line_ticks, lost, lost_after, lost_order, lost_order_if}
+use Rattle.vss_model.proofs.StateForm.{called, does, line, happens}
+use Rattle.vss_model.specs.Acts.{enabled, event_allows, after, reply, line_enabled, line_allows, may_call, is_blocked}
+use Rattle.vss_model.specs.Effects.{evicted, evicted_at, line_ticks, ended_of, lost, lost_after, lost_order, lost_order_if}
+use Rattle.vss_model.proofs.ByEvent.{reply_is}
+use Rattle.vss_model.specs.Changes.{after_changes}
+use Rattle.vss_model.proofs.Changes.{line_is}
+use Rattle.sessions.specs.Moves.{changes_of}
 use Rattle.sessions.proofs.Concluding.{no_end, nobody}
 
 -- ## an event
@@ -36,7 +40,16 @@ module _ (s : Plan) (st : State) (event : Event) (new : SessionsValue) (m : Sess
   after_is = after_enabled s st (told_act event m.outcome.told) h.on ∙ ap (λ (z : Replied). z.1) does_so
 
   outcome_is : (tells : List Bool) (listed : List ℕ) (rows : List WriterRow) → rows ≡ (after_move s st event m).course.rows → IsOutcome tells s st event m.outcome listed [] rows
-  outcome_is tells listed rows e = grind (arith, does_so, after_is)
+  outcome_is tells listed rows e =
+      let is : reply s st (told_act event m.outcome.told) ≡ h.reply = reply_is s st (told_act event m.outcome.told) ∙ ap (λ (z : Replied). z.0) does_so in
+      record {
+        fits = subst (λ r. Fits tells r m.outcome.told) (sym is) (subst (Fits tells h.reply) (sym h.came.told) (h.fits tells));
+        lists = subst (λ r. HasLists r listed rows) (sym is) (h.lists listed rows (e ∙ ap (λ (z : State). z.course.rows) after_is));
+        evicts = h.evicts;
+        loses = h.came.lost;
+        order = h.came.order;
+        ends = subst (λ (x : State). EndsAs (ended_of (in_progress st) x.sets) m.outcome.set m.outcome.result) (sym after_is) h.came.ends;
+      }
 
 pub happens_moves : (P : State → Type 0) (s : Plan) (new : SessionsValue) (event : Event) (m : SessionMove) → ((st : State) → P st → Happens s st event new m) → IsMove P s new event m
 happens_moves P s new event m all = record {
@@ -104,7 +117,8 @@ module _ (s : Plan) (st : State) (lane : ℕ) (op : Op) (c : SessionCall) (is : 
       }
 
   pub line_happens : check st.session (runs st) lane c ≡ Go → ComesTo s lane op st new m → Happens s st (Line lane op) new m
-  line_happens verdict h = judged_happens Go h.told h.reply h.after verdict refl h.does h.fits h.lists h.clean h.came
+  line_happens verdict h = judged_happens Go h.told h.reply h.after verdict refl
+      (line_is s st lane op st.session ∙ ap (λ told. (told, after_changes st (changes_of s lane op st))) h.says ∙ ap (λ (x : State). (h.reply, x)) h.does) h.fits h.lists h.clean h.came
 
   pub line_waits : check st.session (runs st) lane c ≡ Blocked → enabled s st (Line lane op) ≡ false
   line_waits verdict = (call_line op c is).goes s st lane ∙ ap (λ v. not (is_blocked v)) verdict

@@ -13,10 +13,11 @@ pub use Rattle.scenario.specs.Plan.{Plan, WriterPlan, class_in, class_of, token}
 pub use Rattle.vss_model.specs.declared.event.Event.TheVariants.{Answer, Idle, Line, Provider}
 pub use Rattle.vss_model.specs.Reply.{Answered, Coded, DocumentOf, Fine, Idled, NotSelectable, Numbered, Reply, StatusOf, Stepped}
 pub use Rattle.vss_model.specs.State.{SetRow, State, in_progress, is_complete, is_running, left_now, row_changed}
-pub use Rattle.vss_model.specs.Ending.{followed, row_settled, runs}
+pub use Rattle.vss_model.specs.Ending.{row_settled, runs}
+pub use Rattle.vss_model.proofs.StateForm.{followed, add, add_to, change_set, judged, line_in, Replied, later, step_made}
 pub use Rattle.vss_model.specs.Effects.{ended_of}
 pub use Rattle.vss_model.specs.Facts.{IsOfSession, NumberedFrom, OverButNewest, has_failed}
-pub use Rattle.vss_model.specs.Sessions.{add, add_refusal, add_to, change_set, has_no_volume, judged, known_from, known_metas, line_in, selected, with_volume}
+pub use Rattle.vss_model.specs.Sessions.{add_refusal, has_no_volume, known_from, known_metas, selected, with_volume}
 pub use Rattle.vss_model.specs.Outcome.{EndsAs, HasLists, IsOutcome, told_act}
 pub use Rattle.sessions.specs.Keeps.{IsAt, IsInOrder, IsOf, Keeps, SessionsValue, classes_of, classes_registered, nothing_named_in, value_of}
 pub use Rattle.sessions.specs.Moves.{CameTo, ComesTo, Concludes, HasBegun, HasCome, HasTicked, IsAtOver, IsDocumentIn, IsMove, MayAdd, after_move, event_volumes, images_after, is_all, stepped_volumes}
@@ -84,9 +85,8 @@ pub use Rattle.coordinator.proofs.Following.{left-is}
 pub use Rattle.coordinator.proofs.Telling.{runs-is}
 pub use Rattle.scenario.specs.declared.line.Line.TheVariants.{Calls}
 pub use Rattle.vss_model.specs.declared.event.Event.{Event}
-pub use Rattle.vss_model.specs.Images.{Replied}
-pub use Rattle.vss_model.proofs.ByEvent.{after_enabled}
+pub use Rattle.vss_model.proofs.Changes.{after_enabled}
 pub use Rattle.vss_model.proofs.OneCut.{newest_number}
 pub use Rattle.sessions.specs.declared.set_facts.SetFacts.{SetFacts}
-pub use Rattle.vss_model.specs.Steps.{is_flush, later, step_made, with_cut}
+pub use Rattle.vss_model.specs.Steps.{is_flush, with_cut}
 pub use Rattle.std.proofs.lemmas.Option.{slice_get_past, slice_get_read}

@@ -1,11 +1,11 @@
 -- What a call promises of an event: that it waits exactly as the definitions say, or that it is an enabled move, whose
 -- reply and effects are those of the definitions, and after which what is kept stands for the state after it. (This
 -- project's own.)
-use Rattle.std.specs.Prelude.{ℕ, ◌≡◌, Bool, true, false, List, [], Option, Some, None}
+use Rattle.std.specs.Prelude.{ℕ, ◌≡◌, Bool, true, false, List, [], Option, Some, None, not, if◌then◌else◌}
 use Rattle.vss_model.specs.Words.{Add, All, AsyncPending, Clean, Component, Components, Course, Document, EndsAs, Fits, Go, Group, HasLists, Held, History, IsOutcome, Kind, Mode, Op, Order, Plan}
-use Rattle.vss_model.specs.Words.{Reply, Session, SessionCall, SetRow, Start, State, VssResult, WriterRow, after, check, document_text, enabled, ended_of, event_allows, failed_in, followed}
-use Rattle.vss_model.specs.Words.{in_progress, known_metas, left_now, line_in, lost_after, lost_order_if, mark_of, next_volume, open_group, order_now, released, selected, step_made, stepped_as}
-use Rattle.vss_model.specs.Words.{ticked, told_act, volumes_of, writers_of}
+use Rattle.vss_model.specs.Words.{Reply, Session, SessionCall, SetRow, Start, State, VssResult, WriterRow, after, check, document_text, enabled, ended_of, event_allows}
+use Rattle.vss_model.specs.Words.{after_changes, call_reply, cuts_at, fails, goes_on, in_progress, known_metas, leaves_all, left_now, lost_after, lost_order_if, mark_of, next_volume, open_group, order_now, passes, released, selected, session_calls, steps, Change}
+use Rattle.vss_model.specs.Words.{told_act, volumes_of, writers_of}
 use Rattle.sessions.specs.Words.{Effects, Event, Provider, Tells, Told, begun_as, runs, works}
 use Rattle.scenario.specs.declared.op.Op.TheVariants.{Gather, Prepare, Snapshot, Complete}
 use Rattle.vss_model.specs.declared.told.Told.TheVariants as told
@@ -24,7 +24,7 @@ images_after m hs = without_images m.released (without_images (failed_set m.outc
 -- what a step of the provider in this group does itself, where no device fails it
 abbrev pub stepped_volumes : Bool → Group → State → List History
 stepped_volumes true g st = st.volumes
-stepped_volumes false g st = (step_made (Some g) st).volumes
+stepped_volumes false g st = (after_changes st (cuts_at (Some g) st)).volumes
 
 abbrev pub volumes_by_step : Told → State → List History
 volumes_by_step (told.Step g v fails) st = stepped_volumes fails g st
@@ -77,7 +77,7 @@ CameTo t st after new m = HasCome t [] None (in_progress st) st.volumes after ne
 -- The course went on from that of st to c, as these effects tell, and what follows from it was done.
 abbrev pub Concludes : Told → Effects → SessionsValue → SessionsValue → SessionMove → Type 0
 Concludes t e old new m = (st : State) (c : Course) (ran : Bool) (gone : List ℕ) (at : Option Order) → IsInOrder st
-    → Keeps old (record st { course = c }) → Tells e ran gone at st.course c → HasCome t gone at (in_progress st) st.volumes (followed ran c st) new m
+    → Keeps old (record st { course = c }) → Tells e ran gone at st.course c → HasCome t gone at (in_progress st) st.volumes (after_changes st (goes_on ran c st)) new m
 
 -- ## the states of a call
 
@@ -100,12 +100,17 @@ LetsGo x lane c = check x.requestor.session (runs x.coordinator) lane c ≡ Go
 abbrev pub LetsGoAtRest : SessionsValue → ℕ → SessionCall → Type 0
 LetsGoAtRest x lane c = check x.requestor.session false lane c ≡ Go
 
+-- what it changes: nothing if it is refused, or only looks
+abbrev pub changes_of : Plan → ℕ → Op → State → List Change
+changes_of s lane op st = if not (leaves_all (call_reply s op st.session st)) then session_calls s lane op st.session st else []
+
 -- What the line comes to at a state, once the checks let it go: this reply, which is told so, and the state afterwards.
 pub record ComesTo (s : Plan) (lane : ℕ) (op : Op) (st : State) (new : SessionsValue) (m : SessionMove) : Type 0 where
   pub told : Told
   pub reply : Reply
   pub after : State
-  pub does : line_in s lane op st.session st ≡ (reply, after)
+  pub says : call_reply s op st.session st ≡ reply
+  pub does : after_changes st (changes_of s lane op st) ≡ after
   pub fits : (tells : List Bool) → Fits tells reply told
   pub lists : (listed : List ℕ) (rows : List WriterRow) → rows ≡ after.course.rows → HasLists reply listed rows
   pub clean : mark_of told ≡ Clean
@@ -127,7 +132,7 @@ IsClosed old new = (st : State) (hs : List History) → Keeps old st
 -- An agenda of this kind began, over this selection and these volumes, with what follows.
 abbrev pub HasBegun : Kind → Held → List ℕ → SessionsValue → SessionsValue → SessionMove → Type 0
 HasBegun kind h vs old new m = (st : State) (c : Course) → IsInOrder st → Keeps old st → c ≡ begun_as kind old.coordinator.writers h vs st.clock st.course
-    → CameTo (told.Result AsyncPending) st (followed true c st) new m
+    → CameTo (told.Result AsyncPending) st (after_changes st (goes_on true c st)) new m
 
 -- a volume may join the set in progress: there is one, and no agenda runs
 pub record MayAdd (st : State) : Type 0 where
@@ -145,19 +150,19 @@ pub record IsNextStep (x : SessionsValue) (g : Group) (v : Option ℕ) : Type 0 
 
 -- what a step of this group does beside its entry in the log was done
 abbrev pub HasCut : Group → SessionsValue → SessionsValue → Type 0
-HasCut g old new = (st : State) → IsInOrder st → Keeps old st → Keeps new (step_made (Some g) st)
+HasCut g old new = (st : State) → IsInOrder st → Keeps old st → Keeps new (after_changes st (cuts_at (Some g) st))
 
 -- the provider made its step, or a device failed it
 abbrev pub HasStepped : Bool → Group → Option ℕ → SessionsValue → SessionsValue → SessionMove → Type 0
 HasStepped fails g v old new m = (st : State) → IsInOrder st → Keeps old st → open_group (left_now st) ≡ Some g
-    → HasCome (told.Step g v fails) [] None (in_progress st) (stepped_volumes fails g st) (stepped_as fails (Some g) st) new m
+    → HasCome (told.Step g v fails) [] None (in_progress st) (stepped_volumes fails g st) (after_changes st (steps fails (Some g) st)) new m
 
 -- ## time
 
 -- so many ticks went by from a state on, with what follows, and this is told
 abbrev pub HasTicked : Told → ℕ → State → SessionsValue → SessionMove → Type 0
 HasTicked t n st new m =
-    HasCome t (lost_after (Some n) st) (lost_order_if (lost_after (Some n) st) (order_now (left_now st))) (in_progress st) st.volumes (ticked n st) new m
+    HasCome t (lost_after (Some n) st) (lost_order_if (lost_after (Some n) st) (order_now (left_now st))) (in_progress st) st.volumes (after_changes st (passes n st)) new m
 
 abbrev pub HasGoneOn : Told → ℕ → SessionsValue → SessionsValue → SessionMove → Type 0
 HasGoneOn t n old new m = (st : State) → IsInOrder st → Keeps old st → HasTicked t n st new m
@@ -190,8 +195,8 @@ takes_memory _ = false
 
 -- the set in progress failed, for this reason
 abbrev pub IsFailed : SessionsValue → SessionsValue → VssResult → Type 0
-IsFailed old new why = (st : State) → IsInOrder st → Keeps old st → Keeps new (failed_in (in_progress st) why st)
+IsFailed old new why = (st : State) → IsInOrder st → Keeps old st → Keeps new (after_changes st (fails (in_progress st) why st))
 
 -- and this is the move in which it did
 abbrev pub IsFailedSo : SessionsValue → SessionsValue → VssResult → SessionMove → Type 0
-IsFailedSo old new why m = (st : State) → IsInOrder st → Keeps old st → CameTo told.Ok st (failed_in (in_progress st) why st) new m
+IsFailedSo old new why m = (st : State) → IsInOrder st → Keeps old st → CameTo told.Ok st (after_changes st (fails (in_progress st) why st)) new m

@@ -4,6 +4,7 @@ use Rattle.std.specs.Prelude.{◌&&◌, ◌||◌, not, ◌==◌}
 use Rattle.std.specs.List.{list_any, flat_map, range_with_len}
 use Rattle.std.proofs.lemmas.Bool.Decides.{nat_tests}
 use Rattle.std.proofs.lemmas.Bool.{and_parts, or_parts}
+use Rattle.std.proofs.lemmas.Grind.{common_steps}
 use Rattle.vss_names.specs.declared.level.Level.{Level}
 use Rattle.vss_names.specs.declared.order.Order.TheVariants.{Identify, PrepareBackup, PrepareSnapshot, Freeze, Thaw, PostSnapshot, BackupComplete}
 use Rattle.set_agenda.specs.declared.group.Group.{Group}
@@ -13,7 +14,7 @@ use Rattle.set_agenda.specs.declared.member.Member.{Member}
 use Rattle.set_agenda.specs.declared.place.Place.{Place}
 use Rattle.set_agenda.specs.declared.rows.Rows.{Rows}
 use Rattle.set_agenda.specs.declared.cursor.Cursor.{Cursor}
-use Rattle.set_agenda.specs.Agenda.{groups_left, is_among, is_at, left_from, members_of, places, with_group, writers_at}
+use Rattle.set_agenda.specs.Agenda.{groups_left, is_among, is_at, left_from, members_of, places, writers_at}
 use Rattle.set_agenda.specs.Begin.{are_distinct, by_writer, unspoken}
 use Rattle.set_agenda.specs.WriterSet.{writers}
 use Rattle.set_agenda.specs.Cursor.{HasRows, fresh, left_fresh, left_here, left_of, row_at, row_of}
@@ -32,8 +33,7 @@ row-more l ms m b e w = grind (arith, or-false, any-append)
 -- a member of the row's level enters it
 pub row_in : (l : Option Level) (ms : List Member) (m : Member) (old new : List ℕ) → is_at l m.level ≡ true → old ≡ row_of l ms
     → new ≡ writers (λ w. is_among w old || (m.writer == w)) → new ≡ row_of l (ms ++ m ∷ [])
-row_in l ms m old new e h f =
-    f ∙ writers-agree _ (has_member l (ms ++ m ∷ [])) (λ w b. ap (λ c. c || (m.writer == w)) (ap (is_among w) h ∙ among-writers (has_member l ms) w b) ∙ row-more l ms m true e w)
+row_in l ms m old new e h f = grind (arith, common_steps, writers-agree, among-writers, row-more)
 
 -- a member of another level does not
 pub row_out : (l : Option Level) (ms : List Member) (m : Member) (old : List ℕ) → is_at l m.level ≡ false → old ≡ row_of l ms → old ≡ row_of l (ms ++ m ∷ [])
@@ -48,13 +48,7 @@ abbrev of_writer : List Member → ℕ → List Member
 of_writer ms w = filter (λ (m : Member). m.writer == w) ms
 
 writers_at-append : (ms ns : List Member) (l : Option Level) → writers_at (ms ++ ns) l ≡ writers_at ms l ++ writers_at ns l
-writers_at-append [] ns l = refl
-writers_at-append (m ∷ ms) ns l = elim (is_at l m.level) as
-    (λ b. map (λ (x : Member). x.writer)
-    (cond b (m ∷ filter (λ (x : Member). is_at l x.level) (ms ++ ns)) (filter (λ (x : Member). is_at l x.level) (ms ++ ns)))
-    ≡ map (λ (x : Member). x.writer)
-    (cond b (m ∷ filter (λ (x : Member). is_at l x.level) ms) (filter (λ (x : Member). is_at l x.level) ms)) ++ writers_at ns l)
-    [ true ↦ ap (λ xs. m.writer ∷ xs) (writers_at-append ms ns l) | false ↦ writers_at-append ms ns l ]
+writers_at-append ms ns l = grind (arith, common_steps)
 
 abbrev numbers : List Member → List ℕ
 numbers ms = map (λ (m : Member). m.writer) ms
@@ -91,11 +85,7 @@ cons-if b x ys = grind arith
 
 writers_at-each : (l : Option Level) (ms : List Member) → IsOnce ms → (xs : List ℕ) → writers_at (flat_map (of_writer ms) xs) l ≡ filter (has_member l ms) xs
 writers_at-each l ms d [] = refl
-writers_at-each l ms d (x ∷ xs) =
-    writers_at-append (of_writer ms x) (flat_map (of_writer ms) xs) l
-    ∙ ap (λ ys. ys ++ writers_at (flat_map (of_writer ms) xs) l) (one-of l ms d x)
-    ∙ cons-if (has_member l ms x) x (writers_at (flat_map (of_writer ms) xs) l)
-    ∙ ap (λ ys. cond (has_member l ms x) (x ∷ ys) ys) (writers_at-each l ms d xs)
+writers_at-each l ms d (x ∷ xs) = grind (arith, common_steps, writers_at-append, one-of, cons-if, writers_at-each l ms d xs)
 
 writers_at-by_writer : (l : Option Level) (ms : List Member) → IsOnce ms → writers_at (by_writer ms) l ≡ row_of l ms
 unfolding by_writer writers
@@ -134,9 +124,8 @@ begin-from : (k : Kind) (ms : List Member) (vs : List ℕ) (now : ℕ) (r : Rows
     → left_from (unspoken k (by_writer ms) vs now) ps ≡ left_fresh r vs ps
 begin-from k ms vs now r d h [] n = refl
 begin-from k ms vs now r d h (p ∷ ps) n =
-    ap (λ ws. with_group p ws (left_from (unspoken k (by_writer ms) vs now) ps))
-    (filter-all (members_of (unspoken k (by_writer ms) vs now) p.group p.level) ∙ members-are k ms vs now r d h p.group p.level n.0)
-    ∙ ap (with_group p (fresh r vs p)) (begin-from k ms vs now r d h ps n.1)
+    let fact = filter-all (members_of (unspoken k (by_writer ms) vs now) p.group p.level) in
+    grind (arith, common_steps, begin-from k ms vs now r d h ps n.1, members-are k ms vs now r d h p.group p.level n.0)
 
 all-plain : (k : Kind) → PostIsPlainAll (places k)
 all-plain k = grind arith

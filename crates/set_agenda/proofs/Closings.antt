@@ -1,8 +1,9 @@
 -- The groups left, as rows and a cursor have them: writers are done, and steps are made.
-use Rattle.std.proofs.Common.{◌≡◌, ℕ, zero, suc, ◌+◌, List, [], ◌∷◌, Option, refl, Bool, true, false, cond, ap, sym, ◌∙◌, arith, drop}
+use Rattle.std.proofs.Common.{◌≡◌, ℕ, zero, suc, ◌+◌, List, [], ◌∷◌, Option, refl, Bool, true, false, cond, sym, arith, drop}
 use Rattle.std.specs.Prelude.{◌&&◌, not, ◌==◌}
 use Rattle.std.proofs.lemmas.Bool.Decides.{nat_tests}
 use Rattle.std.proofs.lemmas.Bool.{and_parts, or_parts}
+use Rattle.std.proofs.lemmas.Grind.{common_steps}
 use Rattle.vss_names.specs.declared.level.Level.{Level}
 use Rattle.set_agenda.specs.declared.group.Group.{Group}
 use Rattle.set_agenda.specs.declared.kind.Kind.{Kind}
@@ -26,10 +27,7 @@ fresh-unfailed r vs whos ws f e g l = grind arith
 left_fresh-unfailed : (r : Rows) (vs whos ws : List ℕ) (f : Bool) → ws ≡ others_if f whos r.unfailed → (ps : List Place)
     → left_fresh (with_unfailed r ws) vs ps ≡ unasked_if f whos (left_fresh r vs ps)
 left_fresh-unfailed r vs whos ws f e [] = sym (unasked_if-nil f whos)
-left_fresh-unfailed r vs whos ws f e (p ∷ ps) =
-    ap (with_group p (fresh (with_unfailed r ws) vs p)) (left_fresh-unfailed r vs whos ws f e ps)
-    ∙ ap (λ xs. with_group p xs (unasked_if f whos (left_fresh r vs ps))) (fresh-unfailed r vs whos ws f e p.group p.level)
-    ∙ unasked_if-group f whos p (fresh r vs p) (left_fresh r vs ps)
+left_fresh-unfailed r vs whos ws f e (p ∷ ps) = grind (arith, common_steps, fresh-unfailed, unasked_if-group, left_fresh-unfailed r vs whos ws f e ps)
 
 closed-at : (r : Rows) (vs whos ls : List ℕ) (f : Bool) → ls ≡ others_if f whos r.unfailed → (p : Place) (ps : List Place) (b : Bool) (ws ss : List ℕ)
     → is_orders p.group ≡ b → is_asking (with_group p (cond b ws ss) (left_fresh r vs ps)) ≡ true → not (is_nil (cond b ws ss)) ≡ true
@@ -77,8 +75,7 @@ flipped x y e = grind (arith, nat_tests)
 others-apart : (x : ℕ) (xs : List ℕ) → is_among x xs ≡ false → others (x ∷ []) xs ≡ xs
 others-apart x [] h = refl
 others-apart x (y ∷ ys) h =
-    let a : ((y == x) ≡ false) × (is_among x ys ≡ false) = or_parts (y == x) (is_among x ys) h in
-    rw (flipped x y a.0) (ap (λ zs. y ∷ zs) (others-apart x ys a.1))
+    let a : ((y == x) ≡ false) × (is_among x ys ≡ false) = or_parts (y == x) (is_among x ys) h in grind (arith, common_steps, flipped, others-apart x ys a.1)
 
 same-nat : (n : ℕ) → (n == n) ≡ true
 same-nat n = grind (arith, nat_tests)
@@ -101,10 +98,8 @@ stepped-here : (r : Rows) (vs : List ℕ) (c : Cursor) (ps : List Place) → are
     → left_here r vs (with_next c (c.next + 1)) ps ≡ advance (next_member (left_here r vs c ps) ∷ []) false (left_here r vs c ps)
 stepped-here r vs c [] h v a = refl
 stepped-here r vs c (p ∷ ps) h v a =
-    let f : c.next + 1 ≡ suc c.next = omega arith in
-    ap (λ n. with_group p (cond (is_orders p.group) c.waits (drop n (steps vs p.group))) (left_fresh r vs ps)) f
-    ∙ ap (λ xs. with_group p (cond (is_orders p.group) c.waits xs) (left_fresh r vs ps)) (sym (tail-drop c.next (steps vs p.group)))
-    ∙ stepped-at p (left_fresh r vs ps) (is_orders p.group) c.waits (drop c.next (steps vs p.group)) (distinct-drop c.next (steps vs p.group) (steps-distinct vs p.group h)) refl a v
+    let fact = tail-drop c.next (steps vs p.group) in
+    grind (arith, common_steps, nat_tests, tail-drop, stepped-at, distinct-drop, steps-distinct, steps-distinct vs p.group h)
 
 -- the provider has made its next step
 pub closed_step : (k : Kind) (r : Rows) (vs vs2 : List ℕ) (c c2 : Cursor) (old : List Open)

@@ -5,6 +5,7 @@ use Rattle.std.specs.Prelude.{◌&&◌, ◌||◌, not, ◌==◌}
 use Rattle.std.specs.List.{list_any}
 use Rattle.std.proofs.lemmas.Bool.Decides.{nat_tests}
 use Rattle.std.proofs.lemmas.List.Elements.{filter_agree}
+use Rattle.std.proofs.lemmas.Grind.{common_steps}
 use Rattle.vss_names.specs.declared.level.Level.{Level}
 use Rattle.vss_names.specs.declared.order.Order.TheVariants.{Identify, PrepareBackup, PrepareSnapshot, Freeze, Thaw, PostSnapshot, BackupComplete}
 use Rattle.writer_state.specs.declared.said.Said.{Said}
@@ -58,8 +59,7 @@ unasked_if-group b whos p xs os = grind arith
 -- ## entries at the end of a log
 
 pub any-append : {X : Type 0} (p : X → Bool) (xs ys : List X) → list_any p (xs ++ ys) ≡ (list_any p xs || list_any p ys)
-any-append p [] ys = refl
-any-append p (x ∷ xs) ys = elim (p x) as (λ b. (b || list_any p (xs ++ ys)) ≡ ((b || list_any p xs) || list_any p ys)) [ true ↦ refl | false ↦ any-append p xs ys ]
+any-append p xs ys = grind (arith, common_steps)
 
 pub any-among : (c : Bool) (x : ℕ) (ws : List ℕ) → list_any (λ w. c && (w == x)) ws ≡ (c && is_among x ws)
 any-among true x ws = refl
@@ -100,9 +100,7 @@ adds-says_at p said now whos a = record {
 members-add : (a b : Agenda) (p : Place) (whos : List ℕ) (f : Bool) → Adds a b p whos f → (g : Group) (l : Option Level)
     → members_of b g l ≡ others_if (asks_unfailed g && (is_orders p.group && f)) whos (members_of a g l)
 members-add a b p whos f h (Orders PostSnapshot) l =
-    ap (λ ms. filter (λ w. not (has_failed b.log w)) (writers_at ms l)) h.members
-    ∙ filter_agree _ (λ w. not (has_failed a.log w || ((is_orders p.group && f) && is_among w whos))) (λ w. ap not (h.failing w)) (writers_at a.members l)
-    ∙ others_if-filter (has_failed a.log) (is_orders p.group && f) whos (writers_at a.members l)
+    grind (arith, common_steps, others_if-filter (has_failed a.log) (is_orders p.group && f) whos (writers_at a.members l))
 members-add a b p whos f h (Orders Identify) l = ap (λ ms. writers_at ms l) h.members
 members-add a b p whos f h (Orders PrepareBackup) l = ap (λ ms. writers_at ms l) h.members
 members-add a b p whos f h (Orders PrepareSnapshot) l = ap (λ ms. writers_at ms l) h.members
@@ -158,10 +156,7 @@ later-add : (a b : Agenda) (p : Place) (whos : List ℕ) (f : Bool) → Adds a b
     → left_from b ps ≡ unasked_if (is_orders p.group && f) whos (left_from a ps)
 later-add a b p whos f h [] d = sym (unasked_if-nil (is_orders p.group && f) whos)
 later-add a b p whos f h (q ∷ qs) d =
-    ap (with_group q (waited_for b q)) (later-add a b p whos f h qs d.1)
-    ∙ ap (λ ws. with_group q ws (unasked_if (is_orders p.group && f) whos (left_from a qs)))
-    (waited-add a b p whos f h q ∙ ap (λ c. others_if (c || (asks_unfailed q.group && (is_orders p.group && f))) whos (waited_for a q)) d.0)
-    ∙ unasked_if-group (is_orders p.group && f) whos q (waited_for a q) (left_from a qs)
+    grind (arith, common_steps, nat_tests, waited-add, unasked_if-group, later-add a b p whos f h qs d.1, waited-add a b p whos f h q)
 
 step-add : (a b : Agenda) (p : Place) (whos : List ℕ) (f : Bool) → Adds a b p whos f → (q : Place) (qs : List Place) → IsApartFrom q qs → (xs : List ℕ)
     → (IsOpen p (left_from a qs) → left_from b qs ≡ advance whos f (left_from a qs))

@@ -3,6 +3,7 @@ use Rattle.std.proofs.Common.{◌≡◌, ℕ, zero, suc, List, [], ◌∷◌, So
 use Rattle.std.specs.Prelude.{◌&&◌, ◌||◌, not, ◌==◌, if◌then◌else◌}
 use Rattle.std.specs.List.{list_any}
 use Rattle.std.proofs.lemmas.Bool.{and_parts, eqb-true}
+use Rattle.std.proofs.lemmas.Grind.{common_steps}
 use Rattle.writer_state.specs.declared.said.Said.{Said}
 use Rattle.set_agenda.specs.declared.group.Group.{Group}
 use Rattle.set_agenda.specs.declared.group.Group.TheVariants.{Hold, Release}
@@ -97,11 +98,7 @@ filtered-if b c r s q e f = grind arith
 
 among-filtered : (p : ℕ → Bool) (v : ℕ) (xs : List ℕ) → is_among v (filter p xs) ≡ (is_among v xs && p v)
 among-filtered p v [] = refl
-among-filtered p v (x ∷ xs) = first (p x) ∙ filtered-if (p x) (x == v) (is_among v (filter p xs)) (is_among v xs) (p v) (among-filtered p v xs) (λ e. ap p (sym (eqb-true x v e)))
-  where
-    first : (b : Bool) → is_among v (if b then x ∷ filter p xs else filter p xs) ≡ (if b then ((x == v) || is_among v (filter p xs)) else is_among v (filter p xs))
-    first true = refl
-    first false = refl
+among-filtered p v (x ∷ xs) = grind (arith, common_steps, filtered-if, eqb-true, among-filtered p v xs)
 
 by_parts : (m h r : Bool) → (h ≡ true → m ≡ true) → (((m && not r) || false) && not ((m && not h) || false)) ≡ (h && not r)
 by_parts m h r e = grind arith

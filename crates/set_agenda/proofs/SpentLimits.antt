@@ -1,7 +1,7 @@
 -- The limit that is spent at an open place: which of the three, and that those before it are not.
-use Rattle.std.proofs.Common.{◌≡◌, ℕ, List, [], ◌∷◌, ◌++◌, Option, Some, None, refl, Bool, true, false, arith}
-use Rattle.std.specs.Prelude.{if◌then◌else◌}
-use Rattle.tick_limits.specs.Time.{answer_limit, is_spent}
+use Rattle.std.proofs.Common.{◌≡◌, ℕ, List, [], ◌∷◌, ◌++◌, Option, Some, None, refl, Bool, arith}
+use Rattle.std.proofs.lemmas.Grind.{common_steps}
+use Rattle.tick_limits.specs.Time.{answer_limit}
 use Rattle.set_agenda.specs.declared.group.Group.{Group}
 use Rattle.set_agenda.specs.declared.limit.Limit.{Limit}
 use Rattle.set_agenda.specs.declared.limit.Limit.TheVariants.{Hold as HoldLimit, Freeze as FreezeLimit, Answer as AnswerLimit}
@@ -14,19 +14,11 @@ same_running x y e = cc
 -- the first limit of the list that is spent is one of these
 pub first_found : (now : ℕ) (xs ys : List Running) (l : Running) → spent_of now xs ≡ Some l → spent_of now (xs ++ ys) ≡ Some l
 first_found now [] ys l e = absurd cc
-first_found now (x ∷ xs) ys l e = by_test (is_spent now x.since x.ticks) e (first_found now xs ys l) where
-  by_test : (b : Bool) → (if b then Some x else spent_of now xs) ≡ Some l → (spent_of now xs ≡ Some l → spent_of now (xs ++ ys) ≡ Some l)
-      → (if b then Some x else spent_of now (xs ++ ys)) ≡ Some l
-  by_test true e ih = e
-  by_test false e ih = ih e
+first_found now (x ∷ xs) ys l e = grind (arith, common_steps, first_found now xs ys l)
 
 pub later_found : (now : ℕ) (xs ys : List Running) → spent_of now xs ≡ None → spent_of now (xs ++ ys) ≡ spent_of now ys
 later_found now [] ys e = refl
-later_found now (x ∷ xs) ys e = by_test (is_spent now x.since x.ticks) e (later_found now xs ys) where
-  by_test : (b : Bool) → (if b then Some x else spent_of now xs) ≡ None → (spent_of now xs ≡ None → spent_of now (xs ++ ys) ≡ spent_of now ys)
-      → (if b then Some x else spent_of now (xs ++ ys)) ≡ spent_of now ys
-  by_test true e ih = absurd cc
-  by_test false e ih = ih e
+later_found now (x ∷ xs) ys e = grind (arith, common_steps, later_found now xs ys)
 
 pub none_and_some : {X : Type 0} (o : Option Running) (l : Running) → o ≡ None → o ≡ Some l → X
 none_and_some o l e f = grind arith

@@ -1,12 +1,13 @@
 -- Sets of writers as bits and as ascending lists.
 use Rattle.std.proofs.Common.{◌≡◌, ◌≢◌, ℕ, zero, suc, ◌+◌, ◌-◌, ◌*◌, ◌%◌, ◌/◌, ◌^◌, ◌<◌, ◌≤◌, min, max, List, [], ◌∷◌, refl, Bool, true, false, cond, ap, sym}
-use Rattle.std.proofs.Common.{◌∙◌, subst, filter, arith, bit_and, bit_or, w64, nat_eq}
+use Rattle.std.proofs.Common.{◌∙◌, filter, arith, bit_and, bit_or, w64, nat_eq}
 use Rattle.std.specs.Prelude.{◌&&◌, ◌||◌, not, ◌==◌}
 use Rattle.std.specs.List.{range_with_len}
 use Rattle.std.specs.Int.{bit_at}
 use Rattle.std.proofs.lemmas.Bool.Decides.{nat_tests}
 use Rattle.std.proofs.lemmas.Nat.Bits.{shr_and_one, bit_at-lt, bit_at-zero, same_from_bits_below, bit_at_set_same, bit_at_set_other, bit_at_and, bit_at_not, bit_at_or}
 use Rattle.std.proofs.lemmas.Bool.{and_right}
+use Rattle.std.proofs.lemmas.Grind.{common_steps}
 use Rattle.set_agenda.specs.Agenda.{is_among}
 use Rattle.set_agenda.specs.Advance.{others}
 use Rattle.set_agenda.specs.WriterSet.{has_bit, is_nil, writers, writers_of}
@@ -38,8 +39,7 @@ filter-within p q a (suc n) same = rw (same a (omega arith)) (ap (λ ys. cond (q
 -- two filters, one after the other
 pub filter-and : {X : Type 0} (p q : X → Bool) (xs : List X) → filter (λ x. p x && q x) xs ≡ filter q (filter p xs)
 filter-and p q [] = refl
-filter-and p q (x ∷ xs) = elim (p x) as (λ b. cond (b && q x) (x ∷ filter (λ y. p y && q y) xs) (filter (λ y. p y && q y) xs) ≡ filter q (cond b (x ∷ filter p xs) (filter p xs)))
-    [ true ↦ ap (λ ys. cond (q x) (x ∷ ys) ys) (filter-and p q xs) | false ↦ filter-and p q xs ]
+filter-and p q (x ∷ xs) = grind (arith, common_steps, filter-and p q xs)
 
 -- nothing passes
 pub filter-none : {X : Type 0} (xs : List X) → filter (λ x. false) xs ≡ []
@@ -51,9 +51,7 @@ among-cond b x w ys = grind arith
 
 among-below : (p : ℕ → Bool) (a n w : ℕ) → w < a → is_among w (filter p (range_with_len a n)) ≡ false
 among-below p a zero w h = refl
-among-below p a (suc n) w h =
-    let e : (a == w) ≡ false = grind (arith, nat_tests) in
-    among-cond (p a) a w _ ∙ ap (λ b. b || is_among w (filter p (range_with_len (a + 1) n))) (and_right (p a) (a == w) e) ∙ among-below p (a + 1) n w (omega arith)
+among-below p a (suc n) w h = grind (arith, common_steps, among-cond, and_right, among-below p (a + 1) n w (omega arith))
 
 among-step : (p : ℕ → Bool) (a w : ℕ) (d c : Bool) → (a == w) ≡ c → ((a == w) ≡ true → d ≡ false) → ((a == w) ≡ false → d ≡ p w) → ((p a && c) || d) ≡ p w
 among-step p a w d c e f g = grind arith
@@ -61,11 +59,7 @@ among-step p a w d c e f g = grind arith
 -- a number of a range is among those that pass where it passes
 among-filter : (p : ℕ → Bool) (a n w : ℕ) → a ≤ w → w < a + n → is_among w (filter p (range_with_len a n)) ≡ p w
 among-filter p a zero w h l = absurd (omega arith)
-among-filter p a (suc n) w h l =
-    among-cond (p a) a w _
-    ∙ among-step p a w (is_among w (filter p (range_with_len (a + 1) n))) (a == w) refl
-    (λ e. among-below p (a + 1) n w (let s : a ≡ w = same_from a w e in omega (arith, s)))
-    (λ e. among-filter p (a + 1) n w (let s : a ≢ w = other_from a w e in omega (arith, s)) (omega arith))
+among-filter p a (suc n) w h l = grind (arith, common_steps, among-cond, among-step, among-below, same_from, other_from, among-filter p (a + 1) n w)
 
 -- nobody of a range above w is w
 filter-above : (a n w : ℕ) → w < a → filter (λ i. w == i) (range_with_len a n) ≡ []
@@ -131,8 +125,7 @@ or_true : (b : Bool) → (b || true) ≡ true
 or_true b = grind arith
 
 set-at : (bits w i : ℕ) (c : Bool) → w < 64 → (w == i) ≡ c → has_bit (bit_or bits (1 * 2 ^ w % 18446744073709551616)) i ≡ (has_bit bits i || c)
-set-at bits w i true h e = subst (λ k. has_bit (bit_or bits (1 * 2 ^ w % 18446744073709551616)) k ≡ (has_bit bits k || true)) (same_from w i e)
-    (ap (λ b. b == 1) (bit_at_set_same w64 bits w h) ∙ sym (or_true (has_bit bits w)))
+set-at bits w i true h e = grind (arith, common_steps, same_from w i e, bit_at_set_same w64 bits w h, or_true (has_bit bits w))
 set-at bits w i false h e = ap (λ b. b == 1) (bit_at_set_other w64 bits w h i (λ s. other_from w i e (sym s))) ∙ sym (or-false (has_bit bits i))
 
 -- the bit of w put in
@@ -144,9 +137,8 @@ minus_bit x y a b = grind arith
 
 minus-at : (a b i : ℕ) → b < 2 ^ 64 → i < 64 → has_bit (bit_and a (18446744073709551615 - b)) i ≡ (has_bit a i && not (is_among i (writers_of b)))
 minus-at a b i l h =
-    ap (λ n. n == 1) (bit_at_and a (18446744073709551615 - b) i ∙ ap (min (bit_at a i)) (bit_at_not w64 b i l h))
-    ∙ minus_bit (bit_at a i) (bit_at b i) (bit_at-lt a i) (bit_at-lt b i)
-    ∙ ap (λ c. has_bit a i && not c) (sym (among-writers (has_bit b) i h))
+    let fact = minus_bit (bit_at a i) (bit_at b i) (bit_at-lt a i) (bit_at-lt b i) in
+    grind (arith, common_steps, bit_at_and a (18446744073709551615 - b) i, bit_at_not w64 b i l h, bit_at-lt a i, bit_at-lt b i, among-writers (has_bit b) i h)
 
 pub minus_is : (a b : ℕ) → b < 2 ^ 64 → writers_of (bit_and a (18446744073709551615 - b)) ≡ others (writers_of b) (writers_of a)
 minus_is a b l = writers-agree _ (λ i. has_bit a i && not (is_among i (writers_of b))) (λ i h. minus-at a b i l h) ∙ sym (others-writers (writers_of b) (has_bit a))

@@ -1,5 +1,6 @@
-ghost use Rattle.std.specs.Prelude.{IfOk};
-ghost use Rattle.timeline.specs.Ended.{IsEnded, IsPage};
+ghost use Rattle.std.specs.Prelude.{◌≡◌, None, IfOk, IfErr, OnOk};
+ghost use Rattle.timeline.specs.Ended.{IsCause, IsEnded, IsPage};
+ghost use Rattle.timeline.specs.Refused.{refusal};
 
 use crate::ended::Ended;
 use crate::form::Form;
@@ -22,6 +23,22 @@ fn page(alloc: Global, form: Form, name: &str, picture: &Picture<'_>) -> Result<
     }
 }
 
+/// The text of the picture of a run in a form.
+fn page_of(alloc: Global, form: Form, run: Run<'_>) -> Result<Text, PictureError>
+    ensures page { IfOk result (λ text. IsPage text.bytes form) }
+    ensures good { OnOk result (refusal run.entry.scenario.now run.entry.report.now ≡ None) }
+    ensures refused { IfErr result (IsCause run.entry.scenario.now run.entry.report.now) }
+{
+    let picture = match Picture::of(alloc, run.scenario, run.report, run.span, run.axis) {
+        Ok(picture) => picture,
+        Err(error) => return Err(error),
+    };
+    match page(alloc, form, run.name, &picture) {
+        Ok(text) => Ok(text),
+        Err(OutOfMemory) => Err(PictureError::OutOfMemory),
+    }
+}
+
 /// Writes the picture of a run to a sink.
 pub fn draw<K: Sink>(alloc: Global, form: Form, run: Run<'_>, sink: &mut K) -> Ended
     ensures { IsEnded (record {
@@ -34,14 +51,10 @@ pub fn draw<K: Sink>(alloc: Global, form: Form, run: Run<'_>, sink: &mut K) -> E
       writes_last = K.count sink.new;
     }) result }
 {
-    let picture = match Picture::of(alloc, run.scenario, run.report, run.span, run.axis) {
-        Ok(picture) => picture,
+    let text = match page_of(alloc, form, run) {
+        Ok(text) => text,
         Err(PictureError::Refused(why)) => return Ended::Refused(why),
         Err(PictureError::OutOfMemory) => return Ended::OutOfMemory,
-    };
-    let text = match page(alloc, form, run.name, &picture) {
-        Ok(text) => text,
-        Err(OutOfMemory) => return Ended::OutOfMemory,
     };
     match write_all(sink, text.bytes()) {
         Ok(()) => Ended::Written,

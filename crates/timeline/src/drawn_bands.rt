@@ -1,5 +1,6 @@
 //! What a band of a drawing has beside the elements of marks: its rows, its columns, and what lasts.
 
+use crate::band::Band;
 use crate::band_row::BandRow;
 use crate::bar::Bar;
 use crate::frame::Frame;
@@ -165,6 +166,40 @@ fn add_bars<'a>(
     Ok(())
 }
 
+/// Adds the rows of a band with their titles.
+fn add_titles<'a>(
+    frame: &mut Frame<'a>,
+    picture: &Picture<'a>,
+    rows: &[BandRow],
+    width: u64,
+    top: u64,
+) -> Result<(), OutOfMemory> {
+    frame.group(0, top)?;
+    add_rows(frame, picture, rows, width)?;
+    frame.end()
+}
+
+/// Adds what stands behind the marks of a band, and what lasts in it.
+fn add_content<'a>(
+    frame: &mut Frame<'a>,
+    picture: &Picture<'a>,
+    rows: &[BandRow],
+    band: &Band,
+) -> Result<(), OutOfMemory> {
+    let marks = picture.marks.get(band.marks.0..band.marks.1).unwrap_or(&[]);
+    add_columns(frame, marks, bottom_of(rows))?;
+    let bars = picture.stage().bars().done();
+    let bars = bars.get(band.bars.0..band.bars.1).unwrap_or(&[]);
+    add_bars(frame, bars, rows)
+}
+
+/// Adds the title of the closing lines.
+fn add_closing(frame: &mut Frame<'_>, top: u64) -> Result<(), OutOfMemory> {
+    let y = top.saturating_sub(14);
+    frame.words("strong", 10, y, "At the end:", NOTHING)?;
+    frame.group(10, top)
+}
+
 /// Adds a band up to the elements of its marks.
 pub fn add_band<'a>(
     frame: &mut Frame<'a>,
@@ -174,18 +209,10 @@ pub fn add_band<'a>(
 ) -> Result<(), OutOfMemory> {
     let top = layout.band(at);
     let Some(band) = picture.stage().bands().get(at) else {
-        let y = top.saturating_sub(14);
-        frame.words("strong", 10, y, "At the end:", NOTHING)?;
-        return frame.group(10, top);
+        return add_closing(frame, top);
     };
     let rows = layout.rows(at, picture.stage().cast().rows().len());
-    let marks = picture.marks.get(band.marks.0..band.marks.1).unwrap_or(&[]);
-    let bars = picture.stage().bars().done();
-    let bars = bars.get(band.bars.0..band.bars.1).unwrap_or(&[]);
-    frame.group(0, top)?;
-    add_rows(frame, picture, rows, layout.width)?;
-    frame.end()?;
+    add_titles(frame, picture, rows, layout.width, top)?;
     frame.group(layout.left, top)?;
-    add_columns(frame, marks, bottom_of(rows))?;
-    add_bars(frame, bars, rows)
+    add_content(frame, picture, rows, band)
 }

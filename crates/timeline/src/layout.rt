@@ -92,13 +92,17 @@ impl Layout {
             width: LEAST,
             height: TITLE,
         };
+        layout.add_picture(alloc, picture)?;
+        Ok(layout)
+    }
+
+    fn add_picture(&mut self, alloc: Global, picture: &Picture<'_>) -> Result<(), OutOfMemory> {
         for band in picture.stage().bands() {
             let uses = uses_of(alloc, picture, band)?;
-            layout.add_band(band, &uses)?;
+            self.add_band(band, &uses)?;
         }
-        layout.width = layout.width.saturating_add(layout.left);
-        layout.add_closing(picture.stage().closing(), picture.stage().fold())?;
-        Ok(layout)
+        self.width = self.width.saturating_add(self.left);
+        self.add_closing(picture.stage().closing(), picture.stage().fold())
     }
 
     fn add_band(&mut self, band: &Band, uses: &[RowUse]) -> Result<(), OutOfMemory> {

@@ -39,6 +39,19 @@ fn is_drawn(span: Span, moves: u64, line: &str) -> bool {
     line != "report 1"
 }
 
+/// Takes a line of a report that has a mark.
+fn take_mark<'a>(
+    script: &Script<'a>,
+    stage: &mut Stage<'a>,
+    marks: &mut Vec<Mark<'a>>,
+    line: &'a str,
+    moves: u64,
+) -> Result<(), OutOfMemory> {
+    let mark = stage.draws(script, line, moves)?;
+    marks.push(mark)?;
+    Ok(())
+}
+
 /// Takes a line of a report, with its mark where it has one.
 fn take_line<'a>(
     script: &Script<'a>,
@@ -49,25 +62,22 @@ fn take_line<'a>(
     span: Span,
 ) -> Result<(), OutOfMemory> {
     if is_drawn(span, moves, line) {
-        let mark = stage.draws(script, line, moves)?;
-        marks.push(mark)?;
-        return Ok(());
+        return take_mark(script, stage, marks, line, moves);
     }
     stage.passes(script, line)
 }
 
 /// Takes the lines of a report, in order.
 fn take_lines<'a>(
-    alloc: Global,
     script: &Script<'a>,
     stage: &mut Stage<'a>,
+    marks: &mut Vec<Mark<'a>>,
     lines: &[&'a str],
     span: Span,
-) -> Result<Vec<Mark<'a>>, PictureError>
+) -> Result<(), PictureError>
     ensures good { OnOk result (refusal_from script.now 1 (map (λ line. line.now) lines.now) ≡ None) }
     ensures refused { IfErr result (IsRefusal (refusal_from script.now 1 (map (λ line. line.now) lines.now))) }
 {
-    let mut marks = Vec::new(alloc);
     let mut moves = 0u64;
     for (at, line) in lines.iter().enumerate() {
         match fault_of(script, line) {
@@ -80,15 +90,41 @@ fn take_lines<'a>(
             None => {}
         }
         moves = moves_after(moves, line);
-        match take_line(script, stage, &mut marks, line, moves, span) {
+        match take_line(script, stage, marks, line, moves, span) {
             Ok(()) => {}
             Err(OutOfMemory) => return Err(PictureError::OutOfMemory),
         }
     }
-    Ok(marks)
+    Ok(())
 }
 
 impl<'a> Picture<'a> {
+    /// The picture of these lines of a report, beside its script.
+    fn of_lines(
+        alloc: Global,
+        script: &Script<'a>,
+        lines: &[&'a str],
+        span: Span,
+        axis: Axis,
+    ) -> Result<Picture<'a>, PictureError>
+        ensures good { OnOk result (refusal_from script.now 1 (map (λ line. line.now) lines.now) ≡ None) }
+        ensures refused { IfErr result (IsRefusal (refusal_from script.now 1 (map (λ line. line.now) lines.now))) }
+    {
+        let mut stage = match Stage::new(alloc, script, lines, span, axis) {
+            Ok(stage) => stage,
+            Err(OutOfMemory) => return Err(PictureError::OutOfMemory),
+        };
+        let mut marks = Vec::new(alloc);
+        match take_lines(script, &mut stage, &mut marks, lines, span) {
+            Ok(()) => {}
+            Err(error) => return Err(error),
+        }
+        match stage.closes() {
+            Ok(()) => Ok(Picture { marks, stage }),
+            Err(OutOfMemory) => Err(PictureError::OutOfMemory),
+        }
+    }
+
     /// The picture of the moves that are asked for, of a report, beside its scenario, which may be empty.
     pub fn of(
         alloc: Global,
@@ -108,18 +144,7 @@ impl<'a> Picture<'a> {
             Ok(lines) => lines,
             Err(_) => return Err(PictureError::OutOfMemory),
         };
-        let mut stage = match Stage::new(alloc, &script, &lines, span, axis) {
-            Ok(stage) => stage,
-            Err(OutOfMemory) => return Err(PictureError::OutOfMemory),
-        };
-        let marks = match take_lines(alloc, &script, &mut stage, &lines, span) {
-            Ok(marks) => marks,
-            Err(error) => return Err(error),
-        };
-        match stage.closes() {
-            Ok(()) => Ok(Picture { marks, stage }),
-            Err(OutOfMemory) => Err(PictureError::OutOfMemory),
-        }
+        Picture::of_lines(alloc, &script, &lines, span, axis)
     }
 
     /// What lasted.

@@ -99,6 +99,18 @@ fn add_title(alloc: Global, out: &mut Text, name: &str) -> Result<(), OutOfMemor
     )
 }
 
+/// Appends a line for a row whose state is shown under a letter.
+fn add_shown_row(alloc: Global, out: &mut Text, letter: u8, row: Row<'_>) -> Result<(), OutOfMemory>
+    ensures { OnOk result (IsLines out.old.bytes → IsLines out.new.bytes) }
+{
+    let mut line = Text::new(alloc);
+    line.add(b"    ")?;
+    line.add(&[letter])?;
+    line.add(b"  ")?;
+    add_row(&mut line, row)?;
+    add_heading_line(alloc, out, line.bytes())
+}
+
 /// Appends a line for each row whose state is shown: its letter, and what it is.
 fn add_shown(alloc: Global, out: &mut Text, picture: &Picture<'_>) -> Result<(), OutOfMemory>
     ensures { OnOk result (IsLines out.old.bytes → IsLines out.new.bytes) }
@@ -108,12 +120,7 @@ fn add_shown(alloc: Global, out: &mut Text, picture: &Picture<'_>) -> Result<(),
     let rows = rows.get(first..).unwrap_or(&[]);
     let mut letter = b'a';
     for row in rows.get(..shown).unwrap_or(&[]) {
-        let mut line = Text::new(alloc);
-        line.add(b"    ")?;
-        line.add(&[letter])?;
-        line.add(b"  ")?;
-        add_row(&mut line, *row)?;
-        add_heading_line(alloc, out, line.bytes())?;
+        add_shown_row(alloc, out, letter, *row)?;
         letter = letter.saturating_add(1);
     }
     Ok(())
@@ -210,21 +217,27 @@ fn add_marks(
     Ok(())
 }
 
+/// Appends all lines.
+fn add_all(
+    alloc: Global,
+    out: &mut Text,
+    name: &str,
+    picture: &Picture<'_>,
+) -> Result<(), OutOfMemory>
+    ensures { OnOk result (IsLines out.old.bytes → IsLines out.new.bytes) }
+{
+    let (_, shown) = picture.stage().shown();
+    add_title(alloc, out, name)?;
+    add_shown(alloc, out, picture)?;
+    add_heading(alloc, out, shown)?;
+    add_marks(alloc, out, &picture.marks, picture.stage().letters(), shown)
+}
+
 /// The picture as lines: whose run it is, whose states are shown, and then those of each mark.
 pub fn to_lines(alloc: Global, name: &str, picture: &Picture<'_>) -> Result<Text, OutOfMemory>
     ensures { IfOk result (λ text. IsLines text.bytes) }
 {
-    let (_, shown) = picture.stage().shown();
     let mut out = Text::new(alloc);
-    add_title(alloc, &mut out, name)?;
-    add_shown(alloc, &mut out, picture)?;
-    add_heading(alloc, &mut out, shown)?;
-    add_marks(
-        alloc,
-        &mut out,
-        &picture.marks,
-        picture.stage().letters(),
-        shown,
-    )?;
+    add_all(alloc, &mut out, name, picture)?;
     Ok(out)
 }

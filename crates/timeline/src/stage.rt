@@ -165,9 +165,7 @@ impl<'a> Stage<'a> {
     ) -> Result<Place, OutOfMemory> {
         let passed = ticks_of(script, line);
         self.steps(step_of(self.scale, script, line), length)?;
-        self.clock = self.clock.saturating_add(passed);
-        self.takes(script, line)?;
-        self.adds_letters()?;
+        self.takes_in(script, line, passed)?;
         let band = self.bands.len().saturating_sub(1);
         Ok(Place {
             band,
@@ -177,6 +175,18 @@ impl<'a> Stage<'a> {
             passed,
             gap: self.scale.gap(passed),
         })
+    }
+
+    /// Takes the line of a move or of an effect, which lets so many ticks pass, and how it stands with the rows then.
+    fn takes_in(
+        &mut self,
+        script: &Script<'a>,
+        line: &'a str,
+        passed: u64,
+    ) -> Result<(), OutOfMemory> {
+        self.clock = self.clock.saturating_add(passed);
+        self.takes(script, line)?;
+        self.adds_letters()
     }
 
     /// The number of a row of a band among those of all bands, one below another.
@@ -260,8 +270,12 @@ impl<'a> Stage<'a> {
                 Ok(())
             }
             "image" => self.ends(row, Pick::ImageOf(number(what)), Ending::Stands),
-            _ if is_move(line) => self.takes_move(script, row, what, rest),
-            _ => Ok(()),
+            _ => {
+                if is_move(line) {
+                    return self.takes_move(script, row, what, rest);
+                }
+                Ok(())
+            }
         }
     }
 
@@ -287,25 +301,54 @@ impl<'a> Stage<'a> {
     fn takes_lane(&mut self, row: usize, said: &'a str, reply: &'a str) -> Result<(), OutOfMemory> {
         let (word, fields) = parted(said);
         let (answer, value) = parted(reply);
-        match (word, answer) {
-            (_, "set") => {
-                self.set = number(value);
-                let row = self.cast.place(Row::provider());
-                self.bars.begin(BarKind::Set, row, self.set, self.x)
-            }
-            ("begin", "ok") => {
-                let context = number(word_of(fields));
-                self.context = Some(context);
-                self.set = 0;
-                self.bars.begin(BarKind::Session, row, context, self.x)
-            }
-            ("end", "ok") => self.ends_session(row),
-            ("delete", "deleted") => self.deletes(fields),
-            ("revert", "ok") | ("revert", "fault") => self.reverts(fields),
-            ("write", "ok") => self.writes(fields),
-            ("properties", "properties") => self.tells_used(fields, value),
+        match answer {
+            "set" => self.begins_set(number(value)),
+            "ok" => self.takes_done(row, word, fields),
+            _ => self.takes_other(word, fields, answer, value),
+        }
+    }
+
+    /// Takes a lane's line that was answered ok.
+    fn takes_done(&mut self, row: usize, word: &str, fields: &str) -> Result<(), OutOfMemory> {
+        match word {
+            "begin" => self.begins_session(row, number(word_of(fields))),
+            "end" => self.ends_session(row),
+            "revert" => self.reverts(fields),
+            "write" => self.writes(fields),
             _ => Ok(()),
         }
+    }
+
+    /// Takes a lane's line with another answer.
+    fn takes_other(
+        &mut self,
+        word: &str,
+        fields: &str,
+        answer: &str,
+        value: &str,
+    ) -> Result<(), OutOfMemory> {
+        if word == "delete" && answer == "deleted" {
+            return self.deletes(fields);
+        }
+        if word == "revert" && answer == "fault" {
+            return self.reverts(fields);
+        }
+        if word == "properties" && answer == "properties" {
+            return self.tells_used(fields, value);
+        }
+        Ok(())
+    }
+
+    fn begins_set(&mut self, set: u64) -> Result<(), OutOfMemory> {
+        self.set = set;
+        let row = self.cast.place(Row::provider());
+        self.bars.begin(BarKind::Set, row, set, self.x)
+    }
+
+    fn begins_session(&mut self, row: usize, context: u64) -> Result<(), OutOfMemory> {
+        self.context = Some(context);
+        self.set = 0;
+        self.bars.begin(BarKind::Session, row, context, self.x)
     }
 
     fn ends(&mut self, row: usize, pick: Pick, ending: Ending<'a>) -> Result<(), OutOfMemory> {
@@ -383,16 +426,24 @@ impl<'a> Stage<'a> {
                 self.bars.evict(row);
                 Ok(())
             }
-            "writer" if rest == "lost thaw" => {
-                self.ends(row, Pick::Kind(BarKind::Frozen), Ending::Done)
+            "writer" => {
+                if rest == "lost thaw" {
+                    return self.ends(row, Pick::Kind(BarKind::Frozen), Ending::Done);
+                }
+                Ok(())
             }
-            "set" if rest == "complete" => {
-                self.ends(row, Pick::Kind(BarKind::Set), Ending::Done)?;
-                self.bars.stand(self.x)
-            }
-            "set" => self.fails(row, rest_of(rest)),
+            "set" => self.ends_set(row, rest),
             _ => Ok(()),
         }
+    }
+
+    /// The set that is being made is complete, or fails.
+    fn ends_set(&mut self, row: usize, said: &'a str) -> Result<(), OutOfMemory> {
+        if said == "complete" {
+            self.ends(row, Pick::Kind(BarKind::Set), Ending::Done)?;
+            return self.bars.stand(self.x);
+        }
+        self.fails(row, rest_of(said))
     }
 
     /// The set that is being made fails.

@@ -100,16 +100,43 @@ fn add_marks(
     Ok(begun)
 }
 
+/// Appends what is drawn first.
+fn add_head(alloc: Global, out: &mut Text, name: &str, layout: &Layout) -> Result<(), OutOfMemory>
+    ensures { OnOk result (IsDrawn out.old.bytes → IsDrawn out.new.bytes) }
+{
+    let head = head(alloc, name, layout)?;
+    add_parts(out, &head.parts)
+}
+
+/// Appends what is drawn last, where so many bands are begun.
+fn add_foot(alloc: Global, out: &mut Text, begun: usize) -> Result<(), OutOfMemory>
+    ensures { OnOk result (IsDrawn out.old.bytes → IsDrawn out.new.bytes) }
+{
+    let foot = foot(alloc, begun)?;
+    add_parts(out, &foot.parts)
+}
+
+/// Appends all that is drawn.
+fn add_all(
+    alloc: Global,
+    out: &mut Text,
+    name: &str,
+    picture: &Picture<'_>,
+    layout: &Layout,
+) -> Result<(), OutOfMemory>
+    ensures { OnOk result (IsDrawn out.old.bytes → IsDrawn out.new.bytes) }
+{
+    add_head(alloc, out, name, layout)?;
+    let begun = add_marks(alloc, out, picture, &picture.marks, layout)?;
+    add_foot(alloc, out, begun)
+}
+
 /// The drawing of a picture of this name, as a document of SVG: a mark's line is told where a pointer rests on it.
 pub fn to_svg(alloc: Global, name: &str, picture: &Picture<'_>) -> Result<Text, OutOfMemory>
     ensures { IfOk result (λ text. IsDrawn text.bytes) }
 {
     let layout = Layout::of(alloc, picture)?;
-    let head = head(alloc, name, &layout)?;
     let mut out = Text::new(alloc);
-    add_parts(&mut out, &head.parts)?;
-    let begun = add_marks(alloc, &mut out, picture, &picture.marks, &layout)?;
-    let foot = foot(alloc, begun)?;
-    add_parts(&mut out, &foot.parts)?;
+    add_all(alloc, &mut out, name, picture, &layout)?;
     Ok(out)
 }

@@ -5,7 +5,7 @@ use crate::page::Page;
 use crate::plan::Plan;
 use crate::stopped::{Done, Stopped};
 use crate::{
-    agendas, blocks, coordinators, devices, documents, generated, lists, machines, names,
+    agendas, blocks, coordinators, devices, documents, generating, lists, machines, names,
     selections, small_area, streams,
 };
 
@@ -19,7 +19,7 @@ fn make_all(page: &mut Page, word: &str) -> Done {
         "streams" => streams::show_streams(alloc, page),
         "maker" => devices::show_maker(page),
         "agendas" => agendas::show_agendas(alloc, page),
-        "summary" => generated::show_summary(alloc, page),
+        "summary" => generating::show_summary(alloc, page),
         _ => Err(Stopped),
     }
 }
@@ -36,7 +36,7 @@ pub fn make(page: &mut Page, plan: &mut Plan, call: Call<'_>) -> Done {
         "scenario" => agendas::show_text(alloc, page, rest),
         "document" => documents::show_document(alloc, page, rest),
         "selection" => selections::show_selection(alloc, page, rest),
-        "generated" => generated::show_generated(alloc, page, call.number(0)),
+        "generated" => generating::show_generated(alloc, page, call.number(0)),
         word => make_all(page, word),
     }
 }

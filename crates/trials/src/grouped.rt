@@ -13,22 +13,12 @@ use volume_device::MemDevice;
 
 type Group = CowGroup<MemDevice>;
 
-/// Reads a block of a volume.
-fn read(page: &mut Page, group: &mut Group, v: u32, block: u32) -> Done
+/// Reads a block of a volume, or of an image.
+fn read(page: &mut Page, group: &mut Group, v: u32, set: Option<u32>, block: u32) -> Done
     requires { v < length group.old.area.volumes }
 {
     let mut out = buffer(page.alloc())?;
-    let read = group.read_into(v, block, out.bytes_mut());
-    page.tell(&read.map(|()| filled_with(out.bytes())));
-    Ok(())
-}
-
-/// Reads a block of an image.
-fn image(page: &mut Page, group: &mut Group, v: u32, set: u32, block: u32) -> Done
-    requires { v < length group.old.area.volumes }
-{
-    let mut out = buffer(page.alloc())?;
-    let read = group.read_image_into(v, set, block, out.bytes_mut());
+    let read = group.read_into(v, set, block, out.bytes_mut());
     page.tell(&read.map(|()| filled_with(out.bytes())));
     Ok(())
 }
@@ -43,11 +33,14 @@ fn looks(page: &mut Page, group: &Group, v: u32, call: Call<'_>) -> bool
         "used" => page.tell(&group.used(v)),
         "images" => page.tell(&group.images(v)),
         "lend-image" => {
-            let lent = group.lend_image(v, first, second);
+            let lent = group.lend(v, Some(first), second);
             page.tell(&lent.map(|lent| lent.map(filled_with)));
         }
         _ if first >= group.blocks(v) => return false,
-        "lend" => page.tell(&group.lend_block(v, first).map(filled_with)),
+        "lend" => {
+            let lent = group.lend(v, None, first).ok().flatten();
+            page.tell(&lent.map(filled_with));
+        }
         "up_to" => page.tell(&group.goes_up_to(v, first)),
         _ => return false,
     }
@@ -60,8 +53,8 @@ fn change(page: &mut Page, group: &mut Group, v: u32, call: Call<'_>) -> Done
 {
     let (first, second) = (call.number(1), call.number(2));
     match call.word {
-        "read" => return read(page, group, v, first),
-        "image" => return image(page, group, v, first, second),
+        "read" => return read(page, group, v, None, first),
+        "image" => return read(page, group, v, Some(first), second),
         "write" => page.tell(&group.write(v, first, &Payload::Fill(call.byte(2)))),
         "drop" => page.tell(&group.drop_image(v, first)),
         "revert" => page.tell(&group.revert(v, first)),

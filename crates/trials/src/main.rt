@@ -56,7 +56,7 @@ mod content;
 mod coordinators;
 mod devices;
 mod documents;
-mod generated;
+mod generating;
 mod grouped;
 mod groups;
 mod lists;

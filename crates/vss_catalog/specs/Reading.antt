@@ -1,7 +1,7 @@
 -- What bytes say as a catalog, or why they are none. The digest comes first. Then the fields are read forwards: a field that is
 -- cut off is told at its first byte, and else the first field that is not of the format; last, bytes that are left. `at` is
 -- the place of the bytes `rest` among all. (This project's own format.)
-use Rattle.std.specs.Prelude.{◌≡◌, ℕ, zero, suc, ◌+◌, ◌-◌, Bool, List, [], ◌∷◌, length, take, drop, codes, nat_le, nat_lt, nat_eq, ◌&&◌, if◌then◌else◌, Result, Ok, Err}
+use Rattle.std.specs.Prelude.{◌≡◌, ℕ, zero, suc, ◌+◌, ◌-◌, Bool, List, [], ◌∷◌, length, take, drop, codes, nat_le, nat_lt, nat_eq, ◌&&◌, if◌then◌else◌, is_ok, Result, Ok, Err}
 use Rattle.std.specs.List.{starts_with}
 use Rattle.std.specs.Str.{bytes_eq}
 use Rattle.byteorder.specs.Endian.{little_number}
@@ -100,6 +100,10 @@ body_in body = do
   rest ← letters_in body
   count ← volumes_in rest
   entries_in count 0 12 (drop 4 rest)
+
+-- the letters and the number of volumes are those of a catalog: no memory is taken before this is known
+unfoldable pub is_headed : List ℕ → Bool
+is_headed body = is_ok (letters_in body >>= volumes_in)
 
 -- all bytes but the last 32
 abbrev pub front_of : List ℕ → List ℕ

@@ -1,10 +1,11 @@
-ghost use Rattle.std.specs.Prelude.{◌≡◌, ◌<◌, ◌≤◌, ◌==◌, ◌&&◌, length, slice_get, Some, Ok, IfOk, IfErr, IsErrOf, IsTrue, List, All};
+ghost use Rattle.std.specs.Prelude.{◌≡◌, ◌<◌, ◌≤◌, ◌++◌, ◌∷◌, [], ◌==◌, ◌&&◌, length, slice_get, slice_set, Some, Ok, IfOk, IfErr, IsErrOf, IsTrue, List, All, OnErr, OnOk};
+ghost use Rattle.std.specs.List.{remove};
 ghost use Rattle.diff_area.specs.Records.{AreVolumes};
 ghost use Rattle.diff_map.specs.MapValue.{AreImages};
 ghost use Rattle.vss_catalog.specs.Allowed.{IsCatalog};
 ghost use Rattle.vss_catalog.specs.Entries.{EntryValue, lists_of};
 ghost use Rattle.vss_catalog.specs.Group.{are_names_for, entries_of};
-ghost use Rattle.vss_catalog.specs.Reading.{catalog_in, is_sealed, Tells};
+ghost use Rattle.vss_catalog.specs.Reading.{catalog_in, front_of, is_headed, is_sealed, Tells};
 ghost use Rattle.vss_catalog.specs.Written.{bytes_of};
 
 use crate::catalog_fault::CatalogFault;
@@ -71,6 +72,8 @@ impl Catalog {
         ensures ok { IfOk result (λ catalog. catalog_in bytes.now ≡ Ok catalog) }
         ensures refused { IfErr result (λ fault. Tells fault (catalog_in bytes.now)) }
         ensures memory { IsErrOf result CatalogFault.OutOfMemory → IsTrue (is_sealed bytes.now) }
+        ensures headed { IsErrOf result CatalogFault.OutOfMemory →
+            IsTrue (is_headed (front_of bytes.now)) }
         ensures allowed { IfOk result (λ catalog. IsCatalog catalog) }
     {
         match Catalog::read(alloc, bytes) {
@@ -84,6 +87,8 @@ impl Catalog {
         ensures ok { IfOk result (λ catalog. catalog_in bytes.now ≡ Ok catalog) }
         ensures refused { IfErr result (λ fault. Tells fault (catalog_in bytes.now)) }
         ensures memory { IsErrOf result CatalogFault.OutOfMemory → IsTrue (is_sealed bytes.now) }
+        ensures headed { IsErrOf result CatalogFault.OutOfMemory →
+            IsTrue (is_headed (front_of bytes.now)) }
     {
         let Some(front) = sealed_in(bytes) else {
             return Err(CatalogFault::Digest);
@@ -143,5 +148,34 @@ impl Catalog {
         ensures { (e : EntryValue) → slice_get self.now volume ≡ Some e → result.now ≡ e.images }
     {
         self.entries[volume as usize].images()
+    }
+
+    /// Gives a volume so many blocks.
+    pub fn resize(&mut self, volume: u32, blocks: u32)
+        requires { volume < length self.old }
+        ensures { (e : EntryValue) → slice_get self.old volume ≡ Some e
+            → self.new ≡ slice_set self.old volume (record e { blocks = blocks }) }
+    {
+        self.entries[volume as usize].resize(blocks);
+    }
+
+    /// Adds a volume without images behind the others.
+    pub fn add(&mut self, alloc: Global, name: &[u8], blocks: u32) -> Result<(), OutOfMemory>
+        requires few { length self.old < 128 }
+        requires short { length name.now ≤ 32 }
+        ensures added { OnOk result (self.new ≡ self.old ++ record { name = name.now; blocks = blocks; images = [] } ∷ []) }
+        ensures same { OnErr result (self.new ≡ self.old) }
+    {
+        let entry = Entry::of(alloc, name, blocks, Numbers::copy(alloc, &[])?)?;
+        self.entries.push(entry)?;
+        Ok(())
+    }
+
+    /// Takes a volume away.
+    pub fn remove(&mut self, volume: u32)
+        requires { volume < length self.old }
+        ensures { self.new ≡ remove self.old volume }
+    {
+        let _entry = self.entries.remove(volume as usize);
     }
 }

@@ -51,6 +51,13 @@ impl Entry {
         &self.name
     }
 
+    /// Gives the volume so many blocks.
+    pub fn resize(&mut self, blocks: u32)
+        ensures { self.new ≡ record self.old { blocks = blocks } }
+    {
+        self.blocks = blocks;
+    }
+
     /// How many blocks of 16,384 bytes the volume has.
     pub fn blocks(&self) -> u32
         ensures { result ≡ self.now.blocks }

@@ -1,7 +1,7 @@
 //! The fields of a catalog, read forwards.
 
-ghost use Rattle.std.specs.Prelude.{◌≡◌, ◌<◌, ◌≤◌, ◌+◌, ◌*◌, ◌^◌, length, drop, take, IfOk, IfErr, IfSome, is_some, Ok, Err};
-ghost use Rattle.vss_catalog.specs.Reading.{Tells, number_in, name_of_length, name_in, blocks_in, count_in, set_in, sets_in, entry_in, entries_in, letters_in, volumes_in, body_in, front_of, is_sealed};
+ghost use Rattle.std.specs.Prelude.{◌≡◌, ◌<◌, ◌≤◌, ◌+◌, ◌*◌, ◌^◌, length, drop, take, IfOk, IfErr, IfSome, IsErrOf, IsTrue, is_some, Ok, Err};
+ghost use Rattle.vss_catalog.specs.Reading.{Tells, number_in, name_of_length, name_in, blocks_in, count_in, set_in, sets_in, entry_in, entries_in, letters_in, volumes_in, body_in, front_of, is_headed, is_sealed};
 
 use crate::catalog_fault::CatalogFault;
 use crate::entry::Entry;
@@ -28,7 +28,8 @@ fn bytes_from(bytes: &[u8], at: usize) -> &[u8]
 
 /// A number of four bytes.
 fn number_in(at: u32, rest: &[u8]) -> Result<u32, CatalogFault>
-    ensures { result ≡ number_in at rest.now }
+    ensures value { result ≡ number_in at rest.now }
+    ensures known { IsErrOf result CatalogFault.OutOfMemory → ⊥ }
 {
     if rest.len() < 4 {
         return Err(CatalogFault::Short { at });
@@ -171,6 +172,7 @@ fn entries_in(alloc: Global, count: u32, rest: &[u8]) -> Result<Vec<Entry>, Cata
 fn letters_in(body: &[u8]) -> Result<&[u8], CatalogFault>
     ensures ok { IfOk result (λ rest. letters_in body.now ≡ Ok rest.now) }
     ensures refused { IfErr result (λ fault. letters_in body.now ≡ Err fault) }
+    ensures known { IsErrOf result CatalogFault.OutOfMemory → ⊥ }
 {
     if body.len() < MAGIC.len() {
         return Err(CatalogFault::Short { at: 0 });
@@ -185,6 +187,7 @@ fn letters_in(body: &[u8]) -> Result<&[u8], CatalogFault>
 #[tactic(auto, unfolding(crate::specs::Reading::volumes_in))]
 fn volumes_in(rest: &[u8]) -> Result<u32, CatalogFault>
     ensures value { result ≡ volumes_in rest.now }
+    ensures known { IsErrOf result CatalogFault.OutOfMemory → ⊥ }
     ensures few { IfOk result (λ count. count ≤ MOST_VOLUMES) }
 {
     let found = number_in(8, rest)?;
@@ -195,11 +198,12 @@ fn volumes_in(rest: &[u8]) -> Result<u32, CatalogFault>
 }
 
 /// The entries of a catalog, of all bytes but the digest.
-#[tactic(auto, unfolding(crate::specs::Reading::body_in))]
+#[tactic(auto, unfolding(crate::specs::Reading::body_in, crate::specs::Reading::is_headed))]
 pub fn body_in(alloc: Global, body: &[u8]) -> Result<Vec<Entry>, CatalogFault>
     ensures ok { IfOk result (λ entries. body_in body.now ≡ Ok entries.items) }
     ensures few { IfOk result (λ entries. length entries.items ≤ MOST_VOLUMES) }
     ensures refused { IfErr result (λ fault. Tells fault (body_in body.now)) }
+    ensures headed { IsErrOf result CatalogFault.OutOfMemory → IsTrue (is_headed body.now) }
 {
     let rest = letters_in(body)?;
     let count = volumes_in(rest)?;

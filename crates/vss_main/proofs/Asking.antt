@@ -4,13 +4,13 @@ use Rattle.std.specs.Prelude.{◌↔◌, ◌⊎◌, is_some, IfSome}
 use Rattle.io_edge.specs.Streams.{Gave, IfGave}
 use Rattle.volume_device.specs.declared.store.Store.{Store}
 use Rattle.volume_device.specs.declared.device.Device.{Ghosts}
-use Rattle.area_listing.specs.declared.inspection.Inspection.{Inspection}
-use Rattle.area_listing.specs.declared.inspection.Inspection.TheVariants as ended
+use Rattle.vss_main.specs.declared.inspection.Inspection.{Inspection}
+use Rattle.vss_main.specs.declared.inspection.Inspection.TheVariants as ended
 use Rattle.scenario.specs.Grammar.{reading_of, IsScenario}
 use Rattle.scenario.specs.Plan.{Plan}
-use Rattle.command_words.specs.Command.{Asked}
-use Rattle.command_words.specs.declared.task.Task.{Task}
-use Rattle.command_words.specs.declared.task.Task.TheVariants.{Run, Generate, Inspect}
+use Rattle.vss_main.specs.Words.{Asked}
+use Rattle.vss_main.specs.declared.task.Task.{Task}
+use Rattle.vss_main.specs.declared.task.Task.TheVariants.{Run, Generate, Inspect}
 use Rattle.vss_main.specs.Command.{most_bytes, most_bytes_for, most_for_task}
 use Rattle.vss_main.specs.Inspected.{status_of}
 use Rattle.vss_main.specs.Tasks.{IsTask, IsTaskWhereItCan, IsAnswer, IsAnsweredWhereItCan}

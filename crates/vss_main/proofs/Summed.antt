@@ -15,10 +15,10 @@ use Rattle.scenario.specs.Plan.{Plan, blocks_in, blocks_of}
 use Rattle.scenario.specs.declared.refused.Refused.{Refused}
 use Rattle.scenario.specs.declared.refused.Refused.TheVariants.{Line}
 use Rattle.scenario.specs.Grammar.{reading_of, IsScenario, IsBad, IsRefusal}
-use Rattle.generator_text.specs.ScenarioText.{gen_text}
+use Rattle.generated.specs.ScenarioText.{gen_text}
 use Rattle.generated.specs.Reading.{IsRead}
-use Rattle.generator_text.specs.Contents.{final_blocks}
-use Rattle.generator_text.specs.Summary.{summary_with, final_digest, final_digests}
+use Rattle.generated.specs.Contents.{final_blocks}
+use Rattle.generated.specs.Summary.{summary_with, final_digest, final_digests}
 use Rattle.vss_model.specs.Told.{IsDigestIf}
 use Rattle.vss_model.specs.Trail.{is_fault, is_legal, is_complete, faults}
 use Rattle.vss_report.specs.ToldReport.{all_tell}

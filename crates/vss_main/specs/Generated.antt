@@ -9,8 +9,8 @@ use Rattle.volume_device.specs.declared.store.Store.{Store}
 use Rattle.volume_device.specs.declared.device.Device.{Ghosts}
 use Rattle.scenario.specs.Plan.{Plan}
 use Rattle.scenario.specs.Grammar.{reading_of, IsScenario}
-use Rattle.generator_text.specs.ScenarioText.{gen_text}
-use Rattle.generator_text.specs.Summary.{summary, summary_with}
+use Rattle.generated.specs.ScenarioText.{gen_text}
+use Rattle.generated.specs.Summary.{summary, summary_with}
 use Rattle.vss_model.specs.Trail.{faults}
 use Rattle.generated.specs.Scenario.{IsGenerated}
 use Rattle.generated.specs.EndsWell.{EndsWell}

@@ -1,21 +1,117 @@
--- What the word `inspect` promises of the top call: the source was inspected, the status tells how that ended, and no device was made.
--- (This project's own.)
-use Rattle.std.specs.Prelude.{◌≡◌}
-use Rattle.area_listing.specs.Inspected.{Edges, IsInspected, IsListedWhereItCan}
-use Rattle.area_listing.specs.declared.inspection.Inspection.{Inspection}
-use Rattle.area_listing.specs.declared.inspection.Inspection.TheVariants as ended
+-- What an inspection of a source promises, by how it ended: if the area is listed, the bytes read to the end are an area, and the sink took
+-- its listing; if it is refused, they are none, and what is shown is the first refusal of their format. (This project's own.)
+use Rattle.std.specs.Prelude.{ℕ, ◌≡◌, ◌≤◌, List, [], length, Option, Some, IfSome}
+use Rattle.vss_names.specs.Faults.{Rose}
+use Rattle.io_edge.specs.Streams.{Gave, Took, TookPart}
+use Rattle.diff_area.specs.Format.{IsArea}
+use Rattle.diff_area.specs.Refusals.{IsRefused}
+use Rattle.diff_area.specs.declared.area_fault.AreaFault.{AreaFault}
+use Rattle.diff_area.specs.declared.area_fault.AreaFault.TheVariants as fault
+use Rattle.diff_area.specs.declared.area_fault.AreaFault.TheVariants.{Device, BadHeader, BadRecord}
+use Rattle.vss_main.specs.Command.{most_area_bytes}
+use Rattle.vss_main.specs.Listing.{listing}
+use Rattle.vss_main.specs.declared.inspection.Inspection.{Inspection}
+use Rattle.vss_main.specs.declared.inspection.Inspection.TheVariants.{Listed, Refused, ReadFault, WriteFault, TooLong, OutOfMemory}
 use Rattle.vss_main.specs.Outside.{Around, IsUnmade}
 use Rattle.vss_main.specs.declared.status.Status.{Status}
-use Rattle.vss_main.specs.declared.status.Status.TheVariants.{Done, ReadFault, WriteFault, OutOfMemory, TooLong, AreaRefused}
+use Rattle.vss_main.specs.declared.status.Status.TheVariants as told
+
+-- the source and the sink before the call and after it
+pub record Edges : Type 0 where
+  pub left_first : Option (List ℕ)
+  pub left_last : Option (List ℕ)
+  pub reads_first : ℕ
+  pub reads_last : ℕ
+  pub taken_first : Option (List ℕ)
+  pub taken_last : Option (List ℕ)
+  pub writes_first : ℕ
+  pub writes_last : ℕ
+
+-- nothing was written
+pub record IsSilent (e : Edges) : Type 0 where
+  pub taken : e.taken_last ≡ e.taken_first
+  pub writes : e.writes_last ≡ e.writes_first
+
+-- the source was read to its end, and these bytes are all that it gave
+pub record IsAreaInput (e : Edges) (input : List ℕ) : Type 0 where
+  pub gave : Gave e.left_first input e.left_last
+  pub to_the_end : IfSome e.left_last (λ rest. rest ≡ [])
+  pub within : length input ≤ most_area_bytes
+  pub reads : e.reads_last ≡ e.reads_first
+
+-- the input is an area, and its listing was written
+pub record IsListed (e : Edges) : Type 0 where
+  pub input : List ℕ
+  pub is_input : IsAreaInput e input
+  pub is_area : IsArea input
+  pub written : Took e.taken_first (listing input) e.taken_last
+  pub writes : e.writes_last ≡ e.writes_first
+
+-- a first part of the listing was written
+pub record IsListedInPart (e : Edges) : Type 0 where
+  pub input : List ℕ
+  pub is_input : IsAreaInput e input
+  pub is_area : IsArea input
+  pub part : TookPart e.taken_first (listing input) e.taken_last
+  pub rose : Rose e.writes_first e.writes_last
+
+-- the input is no area: this is the first refusal of its format
+pub record IsNoArea (e : Edges) (why : AreaFault) : Type 0 where
+  pub input : List ℕ
+  pub is_input : IsAreaInput e input
+  pub refused : IsRefused input why
+  pub no_device : why ≡ fault.Device → ⊥
+  pub no_memory : why ≡ fault.OutOfMemory → ⊥
+  pub silent : IsSilent e
+
+pub record IsUnread (e : Edges) : Type 0 where
+  pub rose : Rose e.reads_first e.reads_last
+  pub silent : IsSilent e
+
+-- the input is too long, or memory was refused
+pub record IsCutShort (e : Edges) : Type 0 where
+  pub reads : e.reads_last ≡ e.reads_first
+  pub silent : IsSilent e
+
+-- how it ends where there is no listing for this cause
+abbrev pub ended_by : AreaFault → Inspection
+ended_by Device = Refused Device
+ended_by (BadHeader field found) = Refused (BadHeader field found)
+ended_by (BadRecord slot set block volume) = Refused (BadRecord slot set block volume)
+ended_by fault.OutOfMemory = OutOfMemory
+
+abbrev pub IsInspected : Edges → Inspection → Type 0
+IsInspected e Listed = IsListed e
+IsInspected e (Refused why) = IsNoArea e why
+IsInspected e ReadFault = IsUnread e
+IsInspected e WriteFault = IsListedInPart e
+IsInspected e TooLong = IsCutShort e
+IsInspected e OutOfMemory = IsCutShort e
+
+-- Where the input is an area and no count rises, its listing is written or memory is wanting.
+pub record NothingRises (e : Edges) : Type 0 where
+  pub reads : Rose e.reads_first e.reads_last → ⊥
+  pub writes : Rose e.writes_first e.writes_last → ⊥
+
+abbrev pub IsListedOrWantsMemory : Inspection → Type 0
+IsListedOrWantsMemory Listed = Unit {0}
+IsListedOrWantsMemory OutOfMemory = Unit {0}
+IsListedOrWantsMemory _ = ⊥
+
+abbrev pub IsListedWhereItCan : Edges → Inspection → Type 0
+IsListedWhereItCan e ended =
+    (bytes : List ℕ) → e.left_first ≡ Some bytes → length bytes ≤ most_area_bytes → IsArea bytes → NothingRises e → IsListedOrWantsMemory ended
+
+-- ## what the word `inspect` promises of the top call: the status tells how the inspection ended, and no device was made
 
 -- the status with which an inspection ends
 abbrev pub status_of : Inspection → Status
-status_of ended.Listed = Done
-status_of (ended.Refused why) = AreaRefused why
-status_of ended.ReadFault = ReadFault
-status_of ended.WriteFault = WriteFault
-status_of ended.TooLong = TooLong
-status_of ended.OutOfMemory = OutOfMemory
+status_of Listed = told.Done
+status_of (Refused why) = told.AreaRefused why
+status_of ReadFault = told.ReadFault
+status_of WriteFault = told.WriteFault
+status_of TooLong = told.TooLong
+status_of OutOfMemory = told.OutOfMemory
 
 -- the source and the sink before the call and after it
 abbrev pub edges_of : {D : Type 0} → Around D → Edges

@@ -11,7 +11,7 @@ ghost use Rattle.vss_main.specs.TopCall.{AreGivenBack};
 use crate::status::Status;
 use crate::stores::store_of;
 use generated::laws::generated_texts_are_read;
-use generator_text::{gen_scenario, summary_of};
+use generated::{gen_scenario, summary_of};
 use io_edge::{Sink, write_all};
 use scenario::{Refused, Scenario, parse_text};
 use std::alloc::Global;

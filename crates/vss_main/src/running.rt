@@ -2,16 +2,17 @@ ghost use Rattle.std.specs.Prelude.{ℕ, ◌≡◌, ◌<◌, ◌≤◌, ◌↔�
 ghost use Rattle.io_edge.specs.Streams.{IfGave};
 ghost use Rattle.vss_main.specs.Command.{asked_by, most_for_task, most_bytes_for};
 ghost use Rattle.vss_main.specs.Outside.{around};
-ghost use Rattle.command_words.specs.declared.task.Task.TheVariants.{Run};
+ghost use Rattle.vss_main.specs.declared.task.Task.TheVariants.{Run};
 ghost use Rattle.vss_main.specs.TopCall.{IsDone};
 ghost use Rattle.vss_main.specs.Tasks.{IsTask, IsTaskWhereItCan, IsAnswer, IsAnsweredWhereItCan};
 
+use crate::command::Command;
 use crate::generating::run_generated;
-use crate::inspecting::status_of;
+use crate::inspecting::{inspect, status_of};
+use crate::reading::command_of;
 use crate::reporting::run_input;
 use crate::status::Status;
-use area_listing::inspect;
-use command_words::{Command, Task, command_of};
+use crate::task::Task;
 use io_edge::{Sink, Source};
 use std::alloc::Global;
 use std::sync::Wait;

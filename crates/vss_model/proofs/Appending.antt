@@ -1,16 +1,8 @@
 -- What one more move adds to the state, the acts, the legality and the faults of a trail.
-use Rattle.std.proofs.Common.{◌≡◌, ◌+◌, List, [], ◌∷◌, ◌++◌, Option, refl, Bool, sym, ◌∙◌, fold, cond, arith}
+use Rattle.std.proofs.Common.{◌≡◌, ◌+◌, List, [], ◌∷◌, ◌++◌, refl, sym, ◌∙◌, fold, cond, arith}
 use Rattle.std.specs.Prelude.{◌&&◌}
-use Rattle.std.proofs.lemmas.List.{append_assoc, append-nil}
-use Rattle.std.proofs.lemmas.List.Sums.{fold-append, sum_by-append}
-use Rattle.std.proofs.lemmas.Grind.{common_steps}
-use Rattle.write_history.specs.declared.mark.Mark.{Mark}
-use Rattle.write_history.specs.declared.move_item.Move.{Move}
-use Rattle.scenario.specs.Plan.{Plan}
-use Rattle.vss_model.specs.declared.event.Event.{Event}
-use Rattle.vss_model.specs.State.{State, start}
-use Rattle.vss_model.specs.Acts.{Act, after, state}
-use Rattle.vss_model.specs.Trail.{Run, begin, event_of, acts_if, after_event, moved, run_from, run, acts_from, acts, is_legal_move, is_legal_from, is_legal, is_fault, faults}
+use Rattle.vss_model.proofs.Terms.{append_assoc, append-nil, fold-append, sum_by-append, common_steps, Move, Plan, start, Act, after, state, Run, begin}
+use Rattle.vss_model.proofs.Terms.{event_of, acts_if, moved, run_from, run, acts_from, acts, is_legal_move, is_legal_from, is_legal, is_fault, faults}
 use Rattle.set_agenda.proofs.WriterSets.{and-true}
 
 pub state-append : (s : Plan) (before : List Act) (act : Act) → state s (before ++ act ∷ []) ≡ after s (state s before) act
@@ -27,13 +19,9 @@ moves-run_from s r (m ∷ ms) = moves-run_from s (moved s r m) ms ∙ append_ass
 pub moves-run : (s : Plan) (trail : List Move) → (run s trail).moves ≡ trail
 moves-run s trail = moves-run_from s (begin s) trail
 
--- the state of a run is that after its acts
-after-acts_if : (s : Plan) (st : State) (event : Option Event) (mark : Mark) → fold (after s) st (acts_if event mark) ≡ after_event s st event mark
-after-acts_if s st event mark = grind arith
-
 fold-acts_from : (s : Plan) (r : Run) (ms : List Move) → fold (after s) r.state (acts_from s r ms) ≡ (run_from s r ms).state
 fold-acts_from s r [] = refl
-fold-acts_from s r (m ∷ ms) = let ih = fold-acts_from s (moved s r m) ms in grind (arith, common_steps, fold-append, after-acts_if)
+fold-acts_from s r (m ∷ ms) = let ih = fold-acts_from s (moved s r m) ms in grind (arith, common_steps, fold-append)
 
 pub state-run : (s : Plan) (trail : List Move) → (run s trail).state ≡ state s (acts s trail)
 state-run s trail = sym (fold-acts_from s (begin s) trail)
@@ -48,12 +36,9 @@ acts-append s trail m = acts_from-append s (begin s) trail m
 
 -- the legality of one more move
 
-and_assoc : (a b c : Bool) → (a && (b && c)) ≡ (a && b && c)
-and_assoc a b c = grind arith
-
 is_legal_from-append : (s : Plan) (r : Run) (ms : List Move) (m : Move) → is_legal_from s r (ms ++ m ∷ []) ≡ (is_legal_from s r ms && is_legal_move s (run_from s r ms) m)
 is_legal_from-append s r [] m = and-true (is_legal_move s r m)
-is_legal_from-append s r (n ∷ ms) m = let ih = is_legal_from-append s (moved s r n) ms m in grind (arith, common_steps, and_assoc)
+is_legal_from-append s r (n ∷ ms) m = let ih = is_legal_from-append s (moved s r n) ms m in grind (arith, common_steps)
 
 pub is_legal-append : (s : Plan) (trail : List Move) (m : Move) → is_legal s (trail ++ m ∷ []) ≡ (is_legal s trail && is_legal_move s (run s trail) m)
 is_legal-append s trail m = is_legal_from-append s (begin s) trail m

@@ -1,26 +1,12 @@
 -- Where the Cut step is the next one, every volume of the set is held and every participant stands frozen.
 use Rattle.std.proofs.Common.{◌≡◌, ℕ, ◌==◌, List, [], ◌∷◌, Option, Some, refl, Bool, true, false, map, filter, ap, sym, subst, arith}
 use Rattle.std.specs.Prelude.{◌&&◌, ◌||◌, not, if◌then◌else◌}
-use Rattle.std.specs.List.{list_any}
-use Rattle.std.proofs.lemmas.Bool.{and_parts, or_parts}
-use Rattle.vss_names.specs.declared.level.Level.{Level}
-use Rattle.vss_names.specs.declared.level.Level.TheVariants.{System, BackEnd, FrontEnd}
-use Rattle.vss_names.specs.declared.order.Order.TheVariants.{PrepareSnapshot, Freeze, Thaw, PostSnapshot}
-use Rattle.writer_state.specs.WriterState.{is_ok}
-use Rattle.set_agenda.specs.declared.group.Group.{Group}
-use Rattle.set_agenda.specs.declared.group.Group.TheVariants.{Orders, PreCommit, Flush, Hold, Cut, Commit, Release, PostCommit}
-use Rattle.set_agenda.specs.declared.kind.Kind.{Kind}
-use Rattle.set_agenda.specs.declared.kind.Kind.TheVariants.{Snapshot}
-use Rattle.set_agenda.specs.declared.member.Member.{Member}
-use Rattle.set_agenda.specs.declared.place.Place.{Place}
-use Rattle.set_agenda.specs.Agenda.{Agenda, Entry, Open, plain, at_level, places, group_code, level_code, is_freeze, is_thaw, has_said, has_frozen, has_thawed}
-use Rattle.set_agenda.specs.Agenda.{is_at, writers_at, waited_for, with_group, left_from, left, open_group, is_among, is_snapshot, is_held as holds}
-use Rattle.set_agenda.specs.Agenda.{is_frozen as freezes}
-use Rattle.set_agenda.specs.Course.{is_member}
-use Rattle.scenario.specs.Plan.{Plan}
-use Rattle.vss_model.specs.State.{State, SetRow, in_progress, left_now, is_held, is_frozen}
-use Rattle.vss_model.specs.Acts.{Act, state}
-use Rattle.vss_model.specs.Cut.{is_cut_group}
+use Rattle.vss_model.proofs.Terms.{common_steps, nat_tests, list_any, and_parts, or_parts, Level, System, BackEnd, FrontEnd, PrepareSnapshot, Freeze, Thaw}
+use Rattle.vss_model.proofs.Terms.{PostSnapshot, is_ok, Group, Orders, PreCommit, Flush, Hold, Cut, Commit, Release, PostCommit, Kind, Snapshot, Member, Place}
+use Rattle.vss_model.proofs.Terms.{Agenda, Entry, Open, plain, at_level, places, group_code, level_code, is_freeze, is_thaw, has_said, has_frozen, has_thawed}
+use Rattle.vss_model.proofs.Terms.{is_at, writers_at, waited_for, with_group, left_from, left, open_group, is_among, is_snapshot, is_member, Plan, State}
+use Rattle.vss_model.proofs.Terms.{SetRow, in_progress, left_now, is_held, is_frozen, Act, state, is_cut_group}
+use Rattle.set_agenda.specs.Agenda.{is_held as holds, is_frozen as freezes}
 use Rattle.vss_model.proofs.Orderly.{true_not_false}
 use Rattle.vss_model.proofs.HeldOfSet.{IsOf, Tied, tied}
 use Rattle.vss_model.proofs.CutLog.{undoes, is_refusal, is_undoing, is_cut_made, IsSound, SoundLog, sound}
@@ -47,9 +33,6 @@ cut_open b later e h = grind arith
 none_after : (a : Agenda) → is_cut_group (open_group (left_from a (plain Commit ∷ plain Release ∷ plain PostCommit ∷ at_level Thaw System ∷ at_level Thaw BackEnd ∷ at_level Thaw FrontEnd ∷ plain (Orders PostSnapshot) ∷ []))) ≡ false
 none_after a = grind arith
 
-pub at_cut : (a : Agenda) → is_cut_group (open_group (left_from a (places Snapshot))) ≡ true → IsAtCut a
-at_cut a h = grind (arith, closed, cut_open, none_after)
-
 abbrev pub cut_group : Open
 cut_group = record { place = plain Cut; waits = 0 ∷ [] }
 
@@ -58,9 +41,6 @@ later_places = plain Commit ∷ plain Release ∷ plain PostCommit ∷ at_level 
 
 pub cut_is_open : (a : Agenda) → IsAtCut a → left_from a (places Snapshot) ≡ cut_group ∷ left_from a later_places
 cut_is_open a c = grind arith
-
-pub kind_at_cut : (k : Kind) (a : Agenda) → is_cut_group (open_group (left_from a (places k))) ≡ true → k ≡ Snapshot
-kind_at_cut k a h = grind arith
 
 -- ## held
 
@@ -90,11 +70,8 @@ none_found test wider follows (x ∷ log) e = head (test x) (wider x) (list_any 
     head false true c d f g h = absurd cc
     head false false c d f g h = h g
 
-nothing_undone : (b c : Bool) → (b ≡ true → c ≡ true) → c ≡ false → b ≡ false
-nothing_undone b c h e = grind arith
-
 undone_not : (log : List Entry) → IsSound log → is_cut_made log ≡ false → list_any is_undoing log ≡ false
-undone_not log h e = nothing_undone (list_any is_undoing log) (is_cut_made log) h.cut_first e
+undone_not log h e = grind (arith, common_steps, nat_tests)
 
 pub and_three : (a b c : Bool) → a ≡ true → b ≡ true → c ≡ false → (a && b && not c) ≡ true
 and_three a b c e f g = grind arith
@@ -171,7 +148,7 @@ pub record CutsNow (st : State) : Type 0 where
   pub of_set : Tied (Some agenda) st.course.members (in_progress st)
 
 cuts_in : (o : Option Agenda) (st : State) → st.course.agenda ≡ o → is_cut_group (open_group (left o)) ≡ true → SoundLog o → Tied o st.course.members (in_progress st) → CutsNow st
-cuts_in o st e h l t = grind (arith, kind_at_cut, at_cut)
+cuts_in o st e h l t = grind (arith, common_steps, closed, cut_open, none_after)
 
 pub cuts : (s : Plan) (acts : List Act) → is_cut_group (open_group (left_now (state s acts))) ≡ true → CutsNow (state s acts)
 cuts s acts h = cuts_in (state s acts).course.agenda (state s acts) refl h (sound s acts) (tied s acts)

@@ -1,46 +1,25 @@
 -- The rule of events: what holds of each kind of act, each with what is known where it comes, holds of every act that is enabled.
-use Rattle.std.proofs.Common.{◌≡◌, ◌∙◌, ℕ, List, [], Option, Some, None, refl, Bool, true, false, sym, subst, ap, arith}
+use Rattle.std.proofs.Common.{◌≡◌, ◌∙◌, ℕ, List, [], Option, Some, None, refl, Bool, true, false, sym, subst, arith}
 use Rattle.std.specs.Prelude.{map, is_some, ◌&&◌, not, if◌then◌else◌}
-use Rattle.std.proofs.lemmas.Grind.{common_steps}
-use Rattle.vss_names.specs.declared.context.Context.{Context}
-use Rattle.vss_names.specs.declared.vss_result.VssResult.{VssResult}
-use Rattle.vss_names.specs.declared.vss_result.VssResult.TheVariants.{AsyncCancelled}
-use Rattle.write_history.specs.declared.mark.Mark.{Mark}
-use Rattle.write_history.specs.History.{Write, dropped}
-use Rattle.writer_calls.specs.declared.answer.Answer.{Answer}
-use Rattle.writer_calls.specs.Script.{said_of}
-use Rattle.set_agenda.specs.Agenda.{open_group, next_volume, is_asking, is_working}
-use Rattle.set_agenda.specs.Course.{change_at}
-use Rattle.block_data.specs.declared.payload.Payload.TheVariants.{Fill, Stamp}
-use Rattle.block_data.specs.PayloadBytes.{payload_bytes}
-use Rattle.component_doc.specs.Selection.{Pair, Names, naming}
-use Rattle.requestor.specs.declared.mode.Mode.{Mode}
-use Rattle.requestor.specs.declared.session_call.SessionCall.{SessionCall}
+use Rattle.vss_model.proofs.Terms.{nat_tests, common_steps, Context, VssResult, AsyncCancelled, Mark, Write, dropped, Answer, said_of, open_group, next_volume}
+use Rattle.vss_model.proofs.Terms.{is_asking, is_working, change_at, Fill, Stamp, payload_bytes, Pair, Names, naming, Mode, SessionCall, Verdict, Go, Refused}
+use Rattle.vss_model.proofs.Terms.{Session, context_of, opened, makes_set, check, check_begin, check_other, owner_only, verdict_of, goes_beside_agenda, Op}
+use Rattle.vss_model.proofs.Terms.{WriteFill, WriteStamp, Read, ImageDigest, ImageBlock, Query, Properties, Revert, DeleteSet, DeleteImage, Tick, Begin}
+use Rattle.vss_model.proofs.Terms.{Disable, Component, Document, Start, Add, Await, Status, Abort, End, begins_agenda, DeletesSet, DeletesImage, Calls}
+use Rattle.vss_model.proofs.Terms.{target_of, Plan, token, acts_as, Event, Line, Provider, Idle, Reply, Fine, Deleted, Idled, State, SetRow, Kept, in_progress}
+use Rattle.vss_model.proofs.Terms.{left_now, is_held, kept_image, is_kept_set, runs, is_in_set, revert_refusal, revert_reply, delete_image_reply, with_volume}
+use Rattle.vss_model.proofs.Terms.{known_metas, add_refusal, component_reply, fine_unless, add_reply, call_reply, judged_reply, line_ticks, Act}
+use Rattle.vss_model.proofs.Terms.{order_of_writer, is_free, line_enabled, enabled, idle_now, answer_reply, step_reply, reply, LetsGo, is_fine, is_numbered}
+use Rattle.vss_model.proofs.Terms.{is_pending_code, is_pending, leaves_all}
 use Rattle.requestor.specs.declared.session_call.SessionCall.TheVariants as call
-use Rattle.requestor.specs.declared.verdict.Verdict.{Verdict}
-use Rattle.requestor.specs.declared.verdict.Verdict.TheVariants.{Go, Refused}
-use Rattle.requestor.specs.Session.{Session, context_of, opened, makes_set}
-use Rattle.requestor.specs.Check.{check, check_begin, check_other, owner_only, verdict_of, goes_beside_agenda}
-use Rattle.scenario.specs.declared.op.Op.{Op}
-use Rattle.scenario.specs.declared.op.Op.TheVariants.{WriteFill, WriteStamp, Read, ImageDigest, ImageBlock, Query, Properties, Revert, DeleteSet, DeleteImage, Tick, Begin, Disable, Gather, Component, Document, Start, Add, Prepare, Snapshot, Await, Status, Complete, Abort, End}
-use Rattle.scenario.specs.Bounds.{begins_agenda}
-use Rattle.scenario.specs.Calls.{target_of}
+use Rattle.scenario.specs.declared.op.Op.TheVariants.{Gather, Prepare, Snapshot, Complete}
+use Rattle.scenario.specs.declared.line.Line.{Line as Does}
+use Rattle.scenario.specs.declared.line.Line.TheVariants.{Reverts}
 use Rattle.scenario.specs.declared.span.Span.{Span}
-use Rattle.scenario.specs.Plan.{Plan, token, acts_as}
-use Rattle.vss_model.specs.declared.event.Event.{Event}
-use Rattle.vss_model.specs.declared.event.Event.TheVariants.{Line, Answer as AnswerEvent, Provider, Idle}
-use Rattle.vss_model.specs.Reply.{Reply, Fine, Coded, Deleted, Idled}
-use Rattle.vss_model.specs.State.{State, SetRow, Kept, in_progress, left_now, is_held, kept_image, is_kept_set}
-use Rattle.vss_model.specs.Ending.{runs, failed}
-use Rattle.vss_model.specs.Images.{Replied, write, reverted_as, image_block, image_blocks, properties, delete_set, delete_kept, delete_image, revert_refusal, revert_to, revert}
-use Rattle.vss_model.specs.Sessions.{disable, gather, prepare, snapshot, complete, start_set, change_set, with_volume, end_session, component_in, known_metas, add_refusal, add, await_last, line_in, session_line, judged}
-use Rattle.vss_model.specs.Steps.{answered, stepped, ticked}
-use Rattle.vss_model.specs.Lines.{called, line}
-use Rattle.vss_model.specs.Effects.{line_ticks}
-use Rattle.vss_model.specs.Acts.{Act, order_of_writer, is_free, line_enabled, enabled, happens, idle_now, answer_reply, step_reply, after_if, after}
-use Rattle.vss_model.specs.Laws.{LetsGo}
+use Rattle.vss_model.specs.declared.event.Event.TheVariants.{Answer as AnswerEvent}
+use Rattle.vss_model.proofs.StateForm.{failed, Replied, refused, write, reverted_as, image_block, image_blocks, properties, delete_set, delete_kept, delete_image, revert_to, revert, disable, gather, prepare, snapshot, complete, start_set, change_set, end_session, component_in, add, await_last, line_in, session_line, judged, answered, stepped, ticked, called, does, line, happens, add_to}
+use Rattle.vss_model.specs.Lines.{reply_to}
 use Rattle.vss_model.proofs.GoingOn.{Goes, other_goes}
-use Rattle.vss_model.specs.Replies.{is_fine, is_numbered, is_pending_code, is_pending, leaves_all}
 
 -- ## shorter steps of proofs by events
 
@@ -115,11 +94,8 @@ pub record Covers (P : Event → Mark → Replied → Type 0) (s : Plan) (st : S
 
 -- ## what the checks refuse
 
-same_reason : (x y : VssResult) → Refused x ≡ Refused y → x ≡ y
-same_reason x y e = cc
-
 other_reason : (x why : VssResult) → is_pending_code x ≡ false → Refused x ≡ Refused why → is_pending_code why ≡ false
-other_reason x why f e = subst (λ y. is_pending_code y ≡ false) (same_reason x why e) f
+other_reason x why f e = grind (arith, common_steps, nat_tests)
 
 verdict_refuses : (a b c d : Bool) (why : VssResult) → verdict_of a b c d ≡ Refused why → is_pending_code why ≡ false
 verdict_refuses a b c d why e = grind arith
@@ -132,9 +108,6 @@ other_refuses q running lane c why e = grind (arith, common_steps, other_reason,
 
 begin_refuses : (q : Option Session) (lane : ℕ) (why : VssResult) → check_begin q lane ≡ Refused why → is_pending_code why ≡ false
 begin_refuses q lane why e = grind (arith, other_reason)
-
-refused_line : (op : Op) (why : VssResult) → is_pending_code why ≡ false → ChangesNothing op (Coded why)
-refused_line op why e = record { agenda = λ f. e; session = λ f. refl; set = λ f. refl; refused = λ f. ap not e }
 
 not_held : (held free : Bool) → (not held && free) ≡ true → held ≡ false
 not_held held free e = grind arith
@@ -166,12 +139,9 @@ module _ (P : Event → Mark → Replied → Type 0) (s : Plan) (st : State) (k 
   unfolding delete_image
   on_delete_image lane n v mark = on_delete_kept lane n v (kept_image st n v) mark refl
 
-  on_revert_to : (lane n v : ℕ) (refusal : Option VssResult) (kept : Option Kept) (mark : Mark) → kept_image st n v ≡ kept → revert_refusal v kept st ≡ refusal → P (Line lane (Revert n v)) mark (revert_to s v refusal kept mark st)
-  on_revert_to lane n v refusal kept mark e f = grind arith
-
   on_revert : (lane n v : ℕ) (mark : Mark) → P (Line lane (Revert n v)) mark (revert s n v mark st)
   unfolding revert
-  on_revert lane n v mark = on_revert_to lane n v (revert_refusal v (kept_image st n v) st) (kept_image st n v) mark refl refl
+  on_revert lane n v mark = grind (arith, common_steps, nat_tests)
 
   -- ## session calls
 
@@ -189,7 +159,7 @@ module _ (P : Event → Mark → Replied → Type 0) (s : Plan) (st : State) (k 
 
   on_judged : (v : Verdict) (lane : ℕ) (op : Op) (mark : Mark) → line_ticks op ≡ None → ((why : VssResult) → v ≡ Refused why → is_pending_code why ≡ false)
       → (v ≡ Go → P (Line lane op) mark (line_in s lane op st.session st)) → P (Line lane op) mark (judged v s lane op st)
-  on_judged v lane op mark e refuses goes = grind (arith, common_steps, refused_line)
+  on_judged v lane op mark e refuses goes = grind (arith, common_steps)
 
   on_called : (c : SessionCall) (lane : ℕ) (op : Op) (mark : Mark) → line_ticks op ≡ None → ((why : VssResult) → check st.session (runs st) lane c ≡ Refused why → is_pending_code why ≡ false)
       → (check st.session (runs st) lane c ≡ Go → P (Line lane op) mark (line_in s lane op st.session st)) → P (Line lane op) mark (called c s lane op st)
@@ -240,19 +210,46 @@ module _ (P : Event → Mark → Replied → Type 0) (s : Plan) (st : State) (k 
   pub covered : (event : Event) (mark : Mark) → enabled s st event ≡ true → P event mark (happens s event mark st)
   covered event mark e = grind (arith, on_line)
 
--- ## the state after it
+-- ## its reply
 
-pub after_enabled : (s : Plan) (st : State) (act : Act) → enabled s st act.event ≡ true → after s st act ≡ (happens s act.event act.mark st).1
-unfolding after
-after_enabled s st act e = ap (λ b. after_if b s st act) e
+if_told : (b : Bool) (x y : Replied) → (if b then x.0 else y.0) ≡ (if b then x else y).0
+if_told b x y = grind arith
 
-pub after_not_enabled : (s : Plan) (st : State) (act : Act) → enabled s st act.event ≡ false → after s st act ≡ st
-unfolding after
-after_not_enabled s st act e = ap (λ b. after_if b s st act) e
+module _ (s : Plan) (st : State) where
+  told_revert : (v : ℕ) (kept : Option Kept) (mark : Mark) → revert_reply (revert_refusal v kept st) mark ≡ (revert_to s v (revert_refusal v kept st) kept mark st).0
+  told_revert v kept mark = grind arith
 
--- an act that is not enabled changes nothing
-pub after_by : (R : State → Type 0) (s : Plan) (st : State) (act : Act) → (enabled s st act.event ≡ true → R (happens s act.event act.mark st).1) → R st → R (after s st act)
-after_by x0 s st act h stays = grind (arith, after_enabled, after_not_enabled)
+  told_delete_kept : (v : ℕ) (kept : Option Kept) → delete_image_reply kept ≡ (delete_kept v kept st).0
+  told_delete_kept v kept = grind arith
 
-pub after_covered : (R : State → Type 0) (s : Plan) (st : State) → Covers (Next R) s st → R st → (act : Act) → R (after s st act)
-after_covered R s st k h act = after_by R s st act (covered (Next R) s st k act.event act.mark) h
+  told_component : (mode : Mode) (w : ℕ) (name : List ℕ) → component_reply mode s w name st ≡ (component_in mode s w name st).0
+  told_component mode w name = grind arith
+
+  told_add : (v : ℕ) (o : Option SetRow) → add_reply v o st ≡ (add v o st).0
+  told_add v None = refl
+  told_add v (Some r) = of_refusal (add_refusal v r st) where
+    of_refusal : (why : Option VssResult) → fine_unless why ≡ (add_to v r why st).0
+    of_refusal why = grind arith
+
+  pub told_call : (lane : ℕ) (o : Op) (q : Option Session) → call_reply s o q st ≡ (line_in s lane o q st).0
+  told_call lane o q = grind (arith, common_steps, nat_tests, told_component, told_add, if_told)
+
+  told_judged : (v : Verdict) (lane : ℕ) (o : Op) → judged_reply v s o st ≡ (judged v s lane o st).0
+  told_judged v lane o = grind (arith, told_call)
+
+  told_line : (lane : ℕ) (o : Op) (l : Does) (mark : Mark) → reply_to s lane o l mark st ≡ (does s lane o l mark st).0
+  unfolding write delete_set delete_image revert called
+  told_line lane o (Reverts n v) mark = told_revert v (kept_image st n v) mark
+  told_line lane o (DeletesSet n) mark = grind arith
+  told_line lane o (DeletesImage n v) mark = told_delete_kept v (kept_image st n v)
+  told_line lane o (Calls c) mark = told_judged (check st.session (runs st) lane c) lane o
+  told_line lane o _ mark = refl
+
+  pub reply_is : (act : Act) → reply s st act ≡ (happens s act.event act.mark st).0
+  reply_is act = grind (arith, told_line)
+
+-- ## reverts
+
+-- a volume that may be reverted is in no set in progress
+pub no_set_of : (st : State) (v : ℕ) (k : Kept) → revert_refusal v (Some k) st ≡ None → is_in_set v (in_progress st) ≡ false
+no_set_of st v k e = grind (arith, common_steps, nat_tests)

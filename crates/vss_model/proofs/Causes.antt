@@ -1,51 +1,25 @@
 -- Where an act gives no cause, no set fails in it.
 use Rattle.std.proofs.Common.{◌≡◌, ℕ, ◌+◌, List, [], ◌∷◌, ◌++◌, Option, Some, None, refl, Bool, true, false, sym, subst, arith}
 use Rattle.std.specs.Prelude.{◌&&◌, not}
-use Rattle.vss_names.specs.declared.context.Context.{Context}
-use Rattle.vss_names.specs.declared.order.Order.{Order}
-use Rattle.vss_names.specs.declared.set_outcome.SetOutcome.{SetOutcome}
-use Rattle.vss_names.specs.declared.vss_result.VssResult.{VssResult}
-use Rattle.writer_state.specs.declared.said.Said.{Said}
-use Rattle.writer_state.specs.WriterState.{is_ok}
-use Rattle.write_history.specs.declared.mark.Mark.{Mark}
-use Rattle.write_history.specs.History.{Write}
-use Rattle.writer_calls.specs.Script.{said_of}
-use Rattle.writer_calls.specs.declared.answer.Answer.{Answer}
-use Rattle.set_agenda.specs.declared.group.Group.{Group}
-use Rattle.set_agenda.specs.declared.limit.Limit.{Limit}
+use Rattle.vss_model.proofs.Terms.{nat_tests, common_steps, Order, SetOutcome, VssResult, Said, is_ok, Mark, Write, Group, Limit, Kind, Member, left}
+use Rattle.vss_model.proofs.Terms.{open_order, open_group, order_now, spent_of, Course, posted, settled, outcome_after, begun, is_decisive, told, decided}
+use Rattle.vss_model.proofs.Terms.{answered as course_answered, worked, stepped as course_stepped, limits_now, lost_to, lost, fails_set, lost_decided}
+use Rattle.vss_model.proofs.Terms.{treated_as, treated, Mode, SessionCall, Verdict, Session, check, check_other, Op, WriteFill, WriteStamp, Read, ImageDigest}
+use Rattle.vss_model.proofs.Terms.{ImageBlock, Query, Properties, Revert, DeleteSet, DeleteImage, Tick, Abort, End, Plan, Event, State, SetRow, Kept}
+use Rattle.vss_model.proofs.Terms.{in_progress, row_of, left_now, kept_image, runs, set_loses_image, is_flush, is_failed_step, Act, after, state, NumberedFrom}
+use Rattle.vss_model.proofs.Terms.{IsOfSession, has_failed, is_live, is_late_in, is_late, is_flush_step, owns, line_gives_cause, gives_cause}
 use Rattle.set_agenda.specs.declared.limit.Limit.TheVariants.{Answer as AnswerLimit}
-use Rattle.set_agenda.specs.declared.kind.Kind.{Kind}
-use Rattle.set_agenda.specs.declared.member.Member.{Member}
-use Rattle.set_agenda.specs.Agenda.{Agenda, left, open_order, open_group, order_now}
-use Rattle.set_agenda.specs.Limits.{Running as RunningLimit, spent_of}
-use Rattle.set_agenda.specs.Course.{Course, posted, settled_in, settled, outcome_after, begun, is_decisive, told, decided, answered_to}
-use Rattle.set_agenda.specs.Course.{answered as course_answered, worked, stepped as course_stepped, limits_now, lost_to, lost, fails_set, lost_decided}
-use Rattle.set_agenda.specs.Course.{treated_as, treated, timed as course_timed}
-use Rattle.requestor.specs.declared.mode.Mode.{Mode}
-use Rattle.requestor.specs.declared.session_call.SessionCall.{SessionCall}
+use Rattle.set_agenda.specs.Limits.{Running as RunningLimit}
 use Rattle.requestor.specs.declared.session_call.SessionCall.TheVariants as call
-use Rattle.requestor.specs.declared.verdict.Verdict.{Verdict}
-use Rattle.requestor.specs.Session.{Session, context_of}
-use Rattle.requestor.specs.Check.{check, check_other}
-use Rattle.scenario.specs.declared.op.Op.{Op}
-use Rattle.scenario.specs.declared.op.Op.TheVariants.{WriteFill, WriteStamp, Read, ImageDigest, ImageBlock, Query, Properties, Revert, DeleteSet, DeleteImage, Tick, Begin, Abort, End}
-use Rattle.scenario.specs.Plan.{Plan}
-use Rattle.vss_model.specs.declared.event.Event.{Event}
-use Rattle.vss_model.specs.State.{State, SetRow, Kept, in_progress, row_of, left_now, kept_image}
-use Rattle.vss_model.specs.Ending.{ending, concluded, followed, runs}
-use Rattle.vss_model.specs.Images.{cleared, set_loses_image, write, image_block, image_blocks, properties, delete_set, delete_kept, delete_image, revert_refusal, revert_to, revert}
-use Rattle.vss_model.specs.Sessions.{begin_in, component_in, add_to, add, await_last, line_in, session_line, judged}
-use Rattle.vss_model.specs.Steps.{cut_set, step_made, is_flush, is_failed_step, answered, stepped_as, stepped, ticked, later}
-use Rattle.vss_model.specs.Lines.{called, line}
-use Rattle.vss_model.specs.Acts.{Act, enabled, happens, after_if, after, state}
-use Rattle.vss_model.specs.Facts.{NumberedFrom, IsOfSession, has_failed, is_live}
-use Rattle.vss_model.specs.Causes.{is_refused, is_late_in, is_late, is_fault, is_flush_step, owns, line_gives_cause, gives_cause}
+use Rattle.vss_model.proofs.StateForm.{followed, cleared, write, image_block, image_blocks, properties, delete_set, delete_image, revert, component_in, add, await_last, line_in, judged, step_made, answered, stepped, ticked, called, line, happens}
+use Rattle.vss_model.specs.Causes.{is_fault}
 use Rattle.vss_model.proofs.Late.{Decides, late}
 use Rattle.vss_model.proofs.Appending.{state-append}
 use Rattle.vss_model.proofs.Failures.{failed_not_live}
 use Rattle.vss_model.proofs.Orderly.{live-map, live-settled, live_append, live_found, true_not_false}
 use Rattle.vss_model.proofs.OrderlyActs.{orderly, same_changed}
 use Rattle.vss_model.proofs.ByEvent.{by_if}
+use Rattle.vss_model.proofs.Changes.{after_is}
 
 -- ## courses
 
@@ -59,12 +33,9 @@ none_posted before c h = h
 pub none_outcome : (k : Kind) (o : SetOutcome) → has_failed o ≡ false → has_failed (outcome_after k o) ≡ false
 none_outcome k o h = grind arith
 
-none_settled_in : (o : Option Agenda) (c : Course) → Fails c ≡ false → Fails (settled_in o c) ≡ false
-none_settled_in o c h = grind arith
-
 pub none_settled : (c : Course) → Fails c ≡ false → Fails (settled c) ≡ false
 unfolding settled
-none_settled c h = none_settled_in c.agenda c h
+none_settled c h = grind (arith, common_steps, nat_tests)
 
 none_told : (o : Order) (said : Said) (now : ℕ) (ws : List ℕ) (c : Course) → Fails c ≡ false → Fails (told o said now ws c) ≡ false
 unfolding told
@@ -81,14 +52,8 @@ abbrev is_decisive_order : Option Order → Bool
 is_decisive_order None = false
 is_decisive_order (Some o) = is_decisive o
 
-not_refused : (o : Option Order) (answer : Answer) → is_refused o answer ≡ false → (is_decisive_order o && not (is_ok (said_of answer))) ≡ false
-not_refused o answer e = grind arith
-
-none_answered_to : (o : Option Order) (w : ℕ) (said : Said) (now : ℕ) (c : Course) → (is_decisive_order o && not (is_ok said)) ≡ false → Fails c ≡ false → Fails (answered_to o w said now c) ≡ false
-none_answered_to o w said now c e h = grind (arith, none_decided, none_told)
-
 none_answered : (w : ℕ) (said : Said) (now : ℕ) (c : Course) → (is_decisive_order (open_order (left c.agenda) w) && not (is_ok said)) ≡ false → Fails c ≡ false → Fails (course_answered w said now c) ≡ false
-none_answered w said now c e h = none_posted c _ (none_answered_to (open_order (left c.agenda) w) w said now c e h)
+none_answered w said now c e h = grind (arith, common_steps, nat_tests, none_posted, none_decided, none_told)
 
 none_stepped : (now : ℕ) (c : Course) → Fails c ≡ false → Fails (course_stepped true now c) ≡ false
 none_stepped now c h = none_posted c _ (none_settled (worked now c) (none_worked now c h))
@@ -108,9 +73,6 @@ none_treated_as _ now c l f e g h = absurd (true_not_false (is_late_in now c c.a
 none_treated : (o : Option RunningLimit) (now : ℕ) (c : Course) → spent_of now (limits_now c) ≡ o → is_late_in now c c.agenda ≡ false → Fails c ≡ false → Fails (treated o now c) ≡ false
 none_treated None now c e g h = h
 none_treated (Some l) now c e g h = none_treated_as l.limit now c l refl e g h
-
-none_timed : (now : ℕ) (c : Course) → is_late_in now c c.agenda ≡ false → Fails c ≡ false → Fails (course_timed now c) ≡ false
-none_timed now c e h = none_posted c _ (none_treated (spent_of now (limits_now c)) now c refl e h)
 
 pub none_begun : (k : Kind) (ms : List Member) (vs : List ℕ) (now : ℕ) (c : Course) → Fails c ≡ false → Fails (begun k ms vs now c) ≡ false
 unfolding begun
@@ -133,33 +95,24 @@ abbrev IsLive : ℕ → State → Type 0
 IsLive n st = is_live st.sets n ≡ true
 
 module _ (n : ℕ) where
-  live_ended : (o p : SetOutcome) (ran : Bool) (a : Option Agenda) (st : State) → st.course.outcome ≡ p → has_failed p ≡ false → IsLive n st → IsLive n (concluded (ending o p ran a) st)
-  live_ended o p ran a st e f h = grind (arith, live-settled)
-
   pub live_followed : (ran : Bool) (c : Course) (st : State) → Fails c ≡ false → IsLive n st → IsLive n (followed ran c st)
   unfolding followed
-  live_followed ran c st e h = live_ended st.course.outcome c.outcome ran c.agenda (record st { course = c }) refl e h
+  live_followed ran c st e h = grind (arith, common_steps, nat_tests, live-settled)
 
   live_answers : (w : ℕ) (said : Said) (st : State) → Fails (course_answered w said st.clock st.course) ≡ false → IsLive n st → IsLive n (answered w said st)
   unfolding answered
   live_answers w said st e h = live_followed (runs st) _ st e h
 
-  live_cut : (o : Option SetRow) (st : State) → IsLive n st → IsLive n (cut_set o st)
-  live_cut o st h = grind (arith, live-map, same_changed)
-
   live_made : (g : Option Group) (st : State) → IsLive n st → IsLive n (step_made g st)
-  live_made g st h = grind (arith, live_cut)
-
-  pub live_stepped_as : (fails : Bool) (g : Option Group) (st : State) → fails ≡ false → Fails st.course ≡ false → IsLive n st → IsLive n (stepped_as fails g st)
-  live_stepped_as fails g st e f h = grind (arith, live_followed, none_stepped, live_made)
+  live_made g st h = grind (arith, common_steps, live-map, same_changed)
 
   live_steps : (mark : Mark) (st : State) → is_failed_step (is_flush (open_group (left_now st))) mark ≡ false → Fails st.course ≡ false → IsLive n st → IsLive n (stepped mark st)
   unfolding stepped
-  live_steps mark st e f h = live_stepped_as (is_failed_step (is_flush (open_group (left_now st))) mark) (open_group (left_now st)) st e f h
+  live_steps mark st e f h = grind (arith, common_steps, nat_tests, live_followed, none_stepped, live_made)
 
   live_ticks : (k : ℕ) (st : State) → is_late st k ≡ false → Fails st.course ≡ false → IsLive n st → IsLive n (ticked k st)
   unfolding ticked
-  live_ticks k st e f h = live_followed (runs st) (course_timed (st.clock + k) st.course) (later k st) (none_timed (st.clock + k) st.course e f) h
+  live_ticks k st e f h = grind (arith, common_steps, nat_tests, live_followed, none_posted, none_treated)
 
   -- ## lines
 
@@ -176,35 +129,23 @@ module _ (n : ℕ) where
   live_properties : (s : Plan) (v : ℕ) (kept : Option Kept) (st : State) → IsLive n st → IsLive n (properties s v kept st).1
   live_properties s v kept st h = grind arith
 
-  live_delete_kept : (v : ℕ) (kept : Option Kept) (st : State) → IsLive n st → IsLive n (delete_kept v kept st).1
-  live_delete_kept v kept st h = grind arith
-
   live_delete_image : (m v : ℕ) (st : State) → IsLive n st → IsLive n (delete_image m v st).1
   unfolding delete_image
-  live_delete_image m v st h = live_delete_kept v (kept_image st m v) st h
+  live_delete_image m v st h = grind (arith, common_steps, nat_tests)
 
   live_delete_set : (m : ℕ) (st : State) → IsLive n st → IsLive n (delete_set m st).1
   unfolding delete_set
   live_delete_set m st h = by_if (λ r. IsLive n r.1) _ _ _ h h
 
-  live_revert_to : (s : Plan) (v : ℕ) (refusal : Option VssResult) (kept : Option Kept) (mark : Mark) (st : State) → IsLive n st → IsLive n (revert_to s v refusal kept mark st).1
-  live_revert_to s v refusal kept mark st h = grind arith
-
   live_revert : (s : Plan) (m v : ℕ) (mark : Mark) (st : State) → IsLive n st → IsLive n (revert s m v mark st).1
   unfolding revert
-  live_revert s m v mark st h = live_revert_to s v (revert_refusal v (kept_image st m v) st) (kept_image st m v) mark st h
-
-  live_begin : (lane : ℕ) (all : Bool) (c : Option Context) (st : State) → IsLive n st → IsLive n (begin_in lane all c st).1
-  live_begin lane all c st h = grind arith
+  live_revert s m v mark st h = grind (arith, common_steps, nat_tests)
 
   live_component : (mode : Mode) (s : Plan) (w : ℕ) (name : List ℕ) (st : State) → IsLive n st → IsLive n (component_in mode s w name st).1
   live_component mode s w name st h = grind arith
 
-  live_add_to : (v : ℕ) (r : SetRow) (refusal : Option VssResult) (st : State) → IsLive n st → IsLive n (add_to v r refusal st).1
-  live_add_to v r refusal st h = grind (arith, live-map, same_changed)
-
   live_add : (v : ℕ) (o : Option SetRow) (st : State) → IsLive n st → IsLive n (add v o st).1
-  live_add v o st h = grind (arith, live_add_to)
+  live_add v o st h = grind (arith, common_steps, live-map, same_changed)
 
   live_await : (last : Option VssResult) (st : State) → IsLive n st → IsLive n (await_last last st).1
   live_await last st h = grind arith
@@ -221,13 +162,9 @@ module _ (n : ℕ) where
   unfolding called
   live_end s lane st e h = live_refused st.session s lane call.End End st e h
 
-  live_session_line : (s : Plan) (lane : ℕ) (op : Op) (q : Session) (st : State) → stops op ≡ false → Fails st.course ≡ false → IsLive n st → IsLive n (session_line s lane op q st).1
-  live_session_line s lane op q st e f h = grind (arith, live_followed, none_begun, live_component, live_append, live_add, by_if, live_await)
-
   live_line_in : (s : Plan) (lane : ℕ) (op : Op) (q : Option Session) (st : State) → stops op ≡ false → Fails st.course ≡ false → IsLive n st → IsLive n (line_in s lane op q st).1
-  live_line_in s lane (Begin c all) None st e f h = live_begin lane all (context_of c all) st h
-  live_line_in s lane op (Some q) st e f h = live_session_line s lane op q st e f h
-  live_line_in s lane _ None st e f h = h
+  live_line_in s lane op q st e f h =
+      grind (arith, common_steps, nat_tests, live_followed, none_begun, live_component, live_append, live_add, by_if, live_await)
 
   live_judged : (v : Verdict) (s : Plan) (lane : ℕ) (op : Op) (st : State) → stops op ≡ false → Fails st.course ≡ false → IsLive n st → IsLive n (judged v s lane op st).1
   live_judged v s lane op st e f h = grind (arith, live_line_in)
@@ -255,14 +192,10 @@ module _ (n : ℕ) where
   -- ## every act
 
   live_happens : (s : Plan) (event : Event) (mark : Mark) (st : State) → gives_cause s st event mark ≡ false → Fails st.course ≡ false → IsLive n st → IsLive n (happens s event mark st).1
-  live_happens s event mark st e f h = grind (arith, live_line, live_answers, none_answered, not_refused, live_steps, same_flush, live_ticks)
-
-  live_after_if : (b : Bool) (s : Plan) (st : State) (act : Act) → gives_cause s st act.event act.mark ≡ false → Fails st.course ≡ false → IsLive n st → IsLive n (after_if b s st act)
-  live_after_if b s st act e f h = grind (arith, live_happens)
+  live_happens s event mark st e f h = grind (arith, common_steps, live_line, live_answers, none_answered, live_steps, same_flush, live_ticks)
 
   live_after : (s : Plan) (st : State) (act : Act) → gives_cause s st act.event act.mark ≡ false → Fails st.course ≡ false → IsLive n st → IsLive n (after s st act)
-  unfolding after
-  live_after s st act e f h = live_after_if (enabled s st act.event) s st act e f h
+  live_after s st act e f h = grind (arith, common_steps, nat_tests, after_is, live_happens)
 
 -- while a set is in progress, the course has not failed
 pub outcome_running : (q : Option Session) (o : SetOutcome) (r : SetRow) → IsOfSession q o (Some r) → has_failed o ≡ false

@@ -1,61 +1,33 @@
 -- The state after an act is that after its changes, and what is known of each change where it comes: `e` and `m` are the event
 -- and the mark of the act, `st` the state before it, and `x` that to which the change is applied.
 use Rattle.std.proofs.Common.{◌≡◌, ◌∙◌, ℕ, List, [], ◌∷◌, ◌++◌, ◌+◌, fold, length, Option, Some, None, refl, Bool, true, false, sym, subst, ap, inl, inr, arith}
-use Rattle.std.specs.Prelude.{◌⊎◌, ◌&&◌, not, if◌then◌else◌, option_map, is_some}
-use Rattle.std.proofs.lemmas.List.Sums.{fold-append}
-use Rattle.std.proofs.lemmas.Grind.{common_steps}
-use Rattle.vss_names.specs.declared.context.Context.{Context}
-use Rattle.vss_names.specs.declared.context.Context.TheVariants.{Backup, AppRollback, NasRollback}
-use Rattle.vss_names.specs.declared.order.Order.{Order}
-use Rattle.vss_names.specs.declared.set_outcome.SetOutcome.{SetOutcome}
-use Rattle.vss_names.specs.declared.vss_result.VssResult.{VssResult}
-use Rattle.vss_names.specs.declared.vss_result.VssResult.TheVariants.{AsyncCancelled, BadState, InsufficientStorage}
+use Rattle.std.specs.Prelude.{◌⊎◌, ◌&&◌, not, if◌then◌else◌, option_map, is_some, nat_le}
+use Rattle.vss_model.proofs.Terms.{nat_tests, fold-append, common_steps, Context, Backup, AppRollback, NasRollback, Order, SetOutcome, VssResult}
+use Rattle.vss_model.proofs.Terms.{AsyncCancelled, AsyncPending, BadState, ObjectAlreadyExists, MaximumNumberOfVolumesReached, MaximumNumberOfSnapshotsReached}
+use Rattle.vss_model.proofs.Terms.{payload_bytes, Mark, Clean, FaultAfter, Write, Said, Answer, said_of, Group, Cut, Gather, Prepare, Snapshot, Complete}
+use Rattle.vss_model.proofs.Terms.{Agenda, left, open_group, next_volume, is_working, IsKeptFrom, from_answered, from_stepped, from_timed, from_begun, Course}
+use Rattle.vss_model.proofs.Terms.{posted, told, worked, answered as course_answered, stepped as course_stepped, timed, gathered, prepared, snapshot_begun}
+use Rattle.vss_model.proofs.Terms.{completing, failed as course_failed, released, Pair, Naming, Names as NamesNow, naming, takers, SessionCall, Mode, Session}
+use Rattle.vss_model.proofs.Terms.{makes_set, opened, started, agenda_ended, set_failed, Op, Target, target_in, line_of, Plan, token, Event, Line, Provider}
+use Rattle.vss_model.proofs.Terms.{Idle, Reply, Coded, is_pending_code, leaves_all, State, SetRow, Kept, in_progress, history_of, left_now, is_held, kept_image}
+use Rattle.vss_model.proofs.Terms.{Ending, NothingEnds, AgendaEnds, SetFails, ending, runs, is_in_set, is_disabled, known_metas, selected, new_number, new_set}
+use Rattle.vss_model.proofs.Terms.{add_refusal, most_images, most_volumes, has_no_volume, volumes_of, naming_reply, component_reply, fine_unless, add_reply}
+use Rattle.vss_model.proofs.Terms.{await_reply, session_reply, first_reply, call_reply, is_flush, is_failed_step, row_cut, ticks_of, Act, enabled, reply}
+use Rattle.vss_model.proofs.Terms.{changes, after, order_of_writer, idle_now, answer_reply, step_reply, is_provider, is_cut_group, LetsGo, Change, Passes}
+use Rattle.vss_model.proofs.Terms.{SessionIs, StartsSet, AddsVolume, IsCutAt, CourseIs, Settles, Writes, Cuts, Reverts, RevertsPart, DropsSet, Drops, apply}
+use Rattle.vss_model.proofs.Terms.{drops, ends, goes_on, fails, makes_room, puts, reverts, deletes, names, adds, releases, closes, calls, session_calls}
+use Rattle.vss_model.proofs.Terms.{opens_as, passes, cuts, steps, next_step, answers, does_change, event_changes, after_changes, begins, cuts_at}
 use Rattle.block_data.specs.declared.payload.Payload.{Payload}
-use Rattle.block_data.specs.PayloadBytes.{payload_bytes}
-use Rattle.write_history.specs.declared.mark.Mark.{Mark}
-use Rattle.write_history.specs.declared.mark.Mark.TheVariants.{Clean, FaultAfter}
-use Rattle.write_history.specs.History.{Write, History}
-use Rattle.writer_state.specs.declared.said.Said.{Said}
-use Rattle.writer_calls.specs.declared.answer.Answer.{Answer}
-use Rattle.writer_calls.specs.Script.{said_of}
-use Rattle.set_agenda.specs.declared.group.Group.{Group}
-use Rattle.set_agenda.specs.declared.group.Group.TheVariants.{Cut}
-use Rattle.set_agenda.specs.declared.kind.Kind.TheVariants.{Gather, Prepare, Snapshot, Complete}
-use Rattle.set_agenda.specs.Agenda.{Agenda, left, open_group, next_volume, is_working}
-use Rattle.set_agenda.proofs.CourseRule.{IsKeptFrom, from_answered, from_stepped, from_timed, from_begun}
-use Rattle.set_agenda.specs.Course.{Course, posted, told, worked, answered as course_answered, stepped as course_stepped, timed, gathered, prepared}
-use Rattle.set_agenda.specs.Course.{snapshot_begun, completing, failed as course_failed, released}
-use Rattle.component_doc.specs.Selection.{Pair, Names as NamesNow, naming, takers}
-use Rattle.requestor.specs.declared.session_call.SessionCall.{SessionCall}
 use Rattle.requestor.specs.declared.session_call.SessionCall.TheVariants as call
-use Rattle.requestor.specs.Session.{Session, makes_set, opened, started, agenda_ended, set_failed}
 use Rattle.scenario.specs.declared.line.Line.{Line as Does}
 use Rattle.scenario.specs.declared.line.Line.TheVariants as does
-use Rattle.scenario.specs.declared.op.Op.{Op}
 use Rattle.scenario.specs.declared.op.Op.TheVariants as op
-use Rattle.scenario.specs.Calls.{Target, target_in, line_of}
-use Rattle.scenario.specs.Plan.{Plan, token}
-use Rattle.vss_model.specs.declared.event.Event.{Event}
-use Rattle.vss_model.specs.declared.event.Event.TheVariants.{Line, Answer as AnswerEvent, Provider, Idle}
-use Rattle.vss_model.specs.Reply.{Reply}
-use Rattle.vss_model.specs.Replies.{leaves_all}
-use Rattle.vss_model.specs.State.{State, SetRow, Kept, in_progress, left_now, is_held, kept_image}
-use Rattle.vss_model.specs.Ending.{Ending, NothingEnds, AgendaEnds, SetFails, ending, images_dropped, concluded, followed, runs, failed_in, failed}
-use Rattle.vss_model.specs.Images.{Replied, refused, write, reverted_as, put, with_room_if, is_in_set, reply_of_mark}
-use Rattle.vss_model.specs.Sessions.{is_disabled, known_metas, selected, new_number, new_set, add_refusal, has_no_volume, volumes_of, pending, closed}
-use Rattle.vss_model.specs.Steps.{cut_set, is_flush, is_failed_step, stepped_as, stepped, later, ticked, answered, row_cut}
-use Rattle.vss_model.specs.Lines.{does as line_does}
-use Rattle.vss_model.specs.Effects.{ticks_of}
-use Rattle.vss_model.specs.Acts.{Act, enabled, happens, reply, after, order_of_writer, idle_now, answer_reply, step_reply}
-use Rattle.vss_model.specs.Cut.{is_provider, is_cut_group}
-use Rattle.vss_model.specs.Laws.{LetsGo}
-use Rattle.vss_model.specs.Changes.{Change, Passes, SessionIs, Names, StartsSet, AddsVolume, IsCutAt, CourseIs, Settles, Writes, Cuts, Reverts, RevertsPart}
-use Rattle.vss_model.specs.Changes.{DropsSet, Drops, apply, drops, ends, goes_on, fails, makes_room, puts, reverts, deletes, names, adds, releases, closes}
-use Rattle.vss_model.specs.Changes.{calls, session_calls, passes, cuts, steps, does_change, event_changes, changes}
-use Rattle.vss_model.proofs.ByEvent.{Covers, covered, by_if, some_same, may_change, after_enabled, after_not_enabled}
+use Rattle.vss_model.specs.declared.event.Event.TheVariants.{Answer as AnswerEvent}
+use Rattle.vss_model.proofs.StateForm.{concluded, followed, failed_in, failed, Replied, refused, write, reverted_as, pending, closed, cut_set, stepped_as, stepped, later, ticked, answered, does as line_does, happens, after_if, add, add_to, component_in, line_in, line_without_session, named_as, session_line, step_made}
+use Rattle.vss_model.specs.Changes.{Names}
+use Rattle.vss_model.proofs.ByEvent.{Covers, Next, covered, by_if, some_same, may_change, no_set_of, reply_is, told_call}
 use Rattle.vss_model.proofs.Rows.{number-cut}
 use Rattle.vss_model.proofs.Orderly.{find-map, find-settled_over}
-use Rattle.vss_model.proofs.Rule.{no_set_of}
 
 -- ## what is known of a change
 
@@ -240,14 +212,7 @@ Rests c d = (d.outcome ≡ c.outcome) ⊎ (d.agenda ≡ None)
 
 rests : (c : Course) → IsKeptFrom (Rests c) c
 unfolding posted told worked course_failed
-rests c = record {
-  stays = inl refl;
-  posts = λ before d h. h;
-  says = λ o said now ws i. inl refl;
-  works = λ now. inl refl;
-  fails = λ why d e h. inr refl;
-  closes = λ a d e f h. inr refl;
-}
+rests c = grind arith
 
 rests_called : (s : Plan) (st : State) (call : CourseCall) (c : Course) → IsDue st c call → Rests c (called s st call c)
 unfolding course_failed released
@@ -263,13 +228,10 @@ rests_called s st _ c i = inr refl
 
 -- ## the course goes on
 
-dropped_is : (o : Option SetRow) (x : State) → fold apply x (drops o) ≡ record x { volumes = images_dropped o x.volumes }
-dropped_is o x = grind (arith, common_steps)
-
 ends_are : (e : Ending) (c : Course) (x : State) → fold apply (record x { course = c }) (ends e c.outcome x) ≡ concluded e (record x { course = c })
-ends_are e c x = grind (arith, common_steps, dropped_is)
+ends_are e c x = grind (arith, common_steps)
 
-goes_on_own : (ran : Bool) (c : Course) (x : State) → fold apply x (goes_on ran c x) ≡ followed ran c x
+pub goes_on_own : (ran : Bool) (c : Course) (x : State) → fold apply x (goes_on ran c x) ≡ followed ran c x
 unfolding followed
 goes_on_own ran c x = ends_are (ending x.course.outcome c.outcome ran c.agenda) c x
 
@@ -282,7 +244,7 @@ pub record IsAsBefore (x y : State) : Type 0 where
 same_ends : (e : Ending) (o : SetOutcome) (x y : State) → x.session ≡ y.session → drops (in_progress x) ≡ drops (in_progress y) → ends e o y ≡ ends e o x
 same_ends e o x y f g = grind (arith, common_steps)
 
-pub goes_on_is : (ran : Bool) (c : Course) (x y : State) → IsAsBefore x y → fold apply x (goes_on ran c y) ≡ followed ran c x
+goes_on_is : (ran : Bool) (c : Course) (x y : State) → IsAsBefore x y → fold apply x (goes_on ran c y) ≡ followed ran c x
 goes_on_is ran c x y h =
     ap (λ (d : Course). fold apply x (CourseIs c ∷ ends (ending d.outcome c.outcome ran c.agenda) c.outcome y)) (sym h.course)
     ∙ ap (λ ds. fold apply x (CourseIs c ∷ ds)) (same_ends (ending x.course.outcome c.outcome ran c.agenda) c.outcome x y h.session h.set) ∙ goes_on_own ran c x
@@ -297,6 +259,37 @@ as_before x = record { course = refl; session = refl; set = refl }
 closes_is : (q : Session) (x : State) → fold apply x (closes q x) ≡ closed q x
 unfolding closed
 closes_is q x = grind (arith, common_steps)
+
+pub fails_now : (why : VssResult) (st : State) → after_changes st (fails (in_progress st) why st) ≡ failed why st
+fails_now why st = fails_is (in_progress st) why st st (as_before st)
+
+pub answers_are : (w : ℕ) (said : Said) (st : State) → after_changes st (answers w said st) ≡ answered w said st
+unfolding answered
+answers_are w said st = goes_on_own (runs st) (course_answered w said st.clock st.course) st
+
+pub passes_are : (n : ℕ) (st : State) → after_changes st (passes n st) ≡ ticked n st
+unfolding ticked
+passes_are n st = goes_on_is (runs st) (timed (st.clock + n) st.course) (later n st) st (record { course = refl; session = refl; set = refl })
+
+pub ends_session : (s : Plan) (q : Session) (st : State) → after_changes st (calls s op.End q st) ≡ closed q (failed AsyncCancelled st)
+ends_session s q st = grind (arith, fold-append, closes_is, fails_now)
+
+-- the Cut step
+drops_cut : (n now : ℕ) (o : Option SetRow) → drops (option_map (row_cut n now) o) ≡ drops o
+drops_cut n now o = grind (arith, number-cut)
+
+pub cuts_are : (g : Option Group) (st : State) → after_changes st (cuts_at g st) ≡ step_made g st
+cuts_are g st = grind arith
+
+as_before_cut : (o : Option SetRow) (st : State) → IsAsBefore (cut_set o st) st
+as_before_cut o st = grind (arith, common_steps, as_before, find-map, drops_cut)
+
+pub steps_are : (fault : Bool) (g : Option Group) (st : State) → after_changes st (steps fault g st) ≡ stepped_as fault g st
+steps_are fault g st = grind (arith, common_steps, goes_on_own, fold-append, cuts_are, goes_on_is, as_before_cut, as_before)
+
+pub next_is : (mark : Mark) (st : State) → after_changes st (next_step mark st) ≡ stepped mark st
+unfolding stepped
+next_is mark st = steps_are (is_failed_step (is_flush (open_group (left_now st))) mark) (open_group (left_now st)) st
 
 module _ (s : Plan) (e : Event) (m : Mark) (st : State) where
   come_ends : (g : Ending) (x y : State) → x.session ≡ y.session → EndsNone g x.course.agenda → Come s e m st x (ends g x.course.outcome y)
@@ -323,14 +316,12 @@ module _ (s : Plan) (e : Event) (m : Mark) (st : State) where
 
   -- a set in progress has failed before
   none_aborted : (o : Option SetRow) → in_progress st ≡ o → in_progress (fold apply st (fails o AsyncCancelled st)) ≡ None
-  none_aborted None f = f
-  none_aborted (Some r) f = grind (arith, common_steps, dropped_is, find-settled_over)
+  none_aborted o f = grind (arith, common_steps, find-settled_over)
 
   aborted : (o : Option SetRow)
       → ((fold apply st (fails o AsyncCancelled st)).course ≡ st.course)
       ⊎ ((fold apply st (fails o AsyncCancelled st)).course ≡ course_failed AsyncCancelled st.course)
-  aborted None = inl refl
-  aborted (Some r) = inr (grind (arith, common_steps, dropped_is))
+  aborted o = grind arith
 
   come_closes : (q : Session) (x : State) → in_progress x ≡ None → (x.course ≡ st.course) ⊎ (x.course ≡ course_failed AsyncCancelled st.course)
       → Come s e m st x (closes q x)
@@ -364,16 +355,11 @@ module _ (s : Plan) (e : Event) (m : Mark) (st : State) where
 
   makes_on : (ran : Bool) (c : CourseCall) → IsDue st st.course c → Stands st st c
       → Makes (followed ran (called s st c st.course) st) (goes_on ran (called s st c st.course) st)
-  makes_on ran c i k = let d = called s st c st.course in
-      record {
-        is = sym (goes_on_own ran d st);
-        come = come_on ran d st st refl (rests_called s st c st.course i) (record { call = c; is = refl; due = i; stands = k });
-      }
+  makes_on ran c i k = grind (arith, goes_on_own, come_on, rests_called)
 
   makes_passes : (n : ℕ) → ticks_of st e ≡ Some n → Makes (ticked n st) (passes n st)
-  unfolding ticked
   makes_passes n f = record {
-    is = sym (goes_on_is (runs st) (timed (st.clock + n) st.course) (later n st) st (record { course = refl; session = refl; set = refl }));
+    is = sym (passes_are n st);
     come = (
       f,
       come_on
@@ -383,45 +369,26 @@ module _ (s : Plan) (e : Event) (m : Mark) (st : State) where
   }
 
   makes_fails : (why : VssResult) → Makes (failed why st) (fails (in_progress st) why st)
-  makes_fails why = record { is = sym (fails_is (in_progress st) why st st (as_before st)); come = come_fails (in_progress st) why st refl refl refl }
+  makes_fails why = record { is = sym (fails_now why st); come = come_fails (in_progress st) why st refl refl refl }
 
-  makes_end : (lane : ℕ) (q : Session) → Makes (closed q (failed AsyncCancelled st)) (calls s lane op.End q st)
-  makes_end lane q =
+  makes_end : (q : Session) → Makes (closed q (failed AsyncCancelled st)) (calls s op.End q st)
+  makes_end q =
       let cs = fails (in_progress st) AsyncCancelled st in
       let x = fold apply st cs in
       record {
-        is = sym (fold-append apply st cs (closes q x) ∙ closes_is q x ∙ ap (closed q) (fails_is (in_progress st) AsyncCancelled st st (as_before st)));
+        is = sym (ends_session s q st);
         come = come-append s e m st st cs (closes q x) (come_fails (in_progress st) AsyncCancelled st refl refl refl)
             (come_closes q x (none_aborted (in_progress st) refl) (aborted (in_progress st)));
       }
 
-  room_is : (b : Bool) (hs : List History) → fold apply (record st { volumes = hs }) (if b then fails (in_progress st) InsufficientStorage st else []) ≡ with_room_if b (record st { volumes = hs })
-  room_is b hs = grind (arith, common_steps, fails_is)
-
-  room_comes : (b : Bool) (x : State) → x.course ≡ st.course → x.session ≡ st.session
-      → Come s e m st x (if b then fails (in_progress st) InsufficientStorage st else [])
-  room_comes b x same session = grind (arith, common_steps, come_fails)
-
-  puts_is : (k : Mark) (v : ℕ) (w : Write) (x : State) → fold apply x (puts v w k) ≡ put v w k x
-  puts_is k v w x = grind (arith, common_steps)
-
-  puts_come : (v : ℕ) (w : Write) (x : State) → (m ≡ Clean → IsWrite e m st v w) → Come s e m st x (puts v w m)
-  puts_come v w x f = grind (arith, common_steps)
-
   makes_write : (v : ℕ) (w : Write) → (m ≡ Clean → IsWrite e m st v w) → Makes (write s v w m st).1 (makes_room s v w.block st ++ puts v w m)
   unfolding write
-  makes_write v w f = grind (arith, common_steps, fold-append, room_is, puts_is, come-append, room_comes, puts_come)
+  makes_write v w f = grind (arith, common_steps, fold-append, fails_is, come-append, come_fails)
 
   makes_revert : (lane n v : ℕ) (k : Kept) → e ≡ Line lane (op.Revert n v) → kept_image st n v ≡ Some k → is_in_set v (in_progress st) ≡ false → Makes (reverted_as s v k m st).1 (reverts s v (Some k) m)
   makes_revert lane n v k f g h = grind (arith, common_steps, makes_none)
 
   -- the Cut step
-  drops_cut : (n now : ℕ) (o : Option SetRow) → drops (option_map (row_cut n now) o) ≡ drops o
-  drops_cut n now o = grind (arith, number-cut)
-
-  in_progress_cut : (n now : ℕ) (x : State) → drops (in_progress (apply x (IsCutAt n now))) ≡ drops (in_progress x)
-  in_progress_cut n now x = grind (arith, common_steps, find-map, drops_cut)
-
   abbrev next_of : Bool → Course
   next_of ok = called s st (Steps ok) st.course
 
@@ -433,7 +400,7 @@ module _ (s : Plan) (e : Event) (m : Mark) (st : State) where
       let known : (x : State) → x.volumes ≡ st.volumes → IsCut e st x r.number = λ x i. record { row = r; found = f; number = refl; provider = g; group = h; volumes = i } in
       let x = cut_set (Some r) st in
       record {
-        is = sym (goes_on_is (runs st) c x st (record { course = refl; session = refl; set = in_progress_cut r.number st.clock st }));
+        is = sym (goes_on_is (runs st) c x st (as_before_cut (Some r) st));
         come = (
           (known st refl, refl, refl),
           (
@@ -445,7 +412,7 @@ module _ (s : Plan) (e : Event) (m : Mark) (st : State) where
       }
 
   makes_cut_in : (o : Option SetRow) → is_working (left_now st) ≡ true → in_progress st ≡ o → is_provider e ≡ true → is_cut_group (open_group (left_now st)) ≡ true
-      → Makes (followed (runs st) (next_of true) (cut_set o st)) (cuts true o st.clock ++ goes_on (runs st) (next_of true) st)
+      → Makes (followed (runs st) (next_of true) (cut_set o st)) (cuts o st.clock ++ goes_on (runs st) (next_of true) st)
   makes_cut_in None w f g h = makes_on (runs st) (Steps true) (w, refl) tt
   makes_cut_in (Some r) w f g h = makes_cut r w f g h
 
@@ -454,11 +421,11 @@ module _ (s : Plan) (e : Event) (m : Mark) (st : State) where
   makes_steps false (Some Cut) w f h = makes_cut_in (in_progress st) w refl f (ap is_cut_group h)
   makes_steps false _ w f h = makes_on (runs st) (Steps true) (w, refl) tt
 
-  makes_stepped : is_working (left_now st) ≡ true → is_provider e ≡ true → Makes (stepped m st) (steps (is_failed_step (is_flush (open_group (left_now st))) m) (open_group (left_now st)) st)
+  makes_stepped : is_working (left_now st) ≡ true → is_provider e ≡ true → Makes (stepped m st) (next_step m st)
   unfolding stepped
   makes_stepped w f = makes_steps (is_failed_step (is_flush (open_group (left_now st))) m) (open_group (left_now st)) w f refl
 
-  makes_answer : (w : ℕ) (said : Said) → is_some (order_of_writer st w) ≡ true → Makes (answered w said st) (goes_on (runs st) (course_answered w said st.clock st.course) st)
+  makes_answer : (w : ℕ) (said : Said) → is_some (order_of_writer st w) ≡ true → Makes (answered w said st) (answers w said st)
   unfolding answered
   makes_answer w said i = makes_on (runs st) (Answers w said) (i, refl) tt
 
@@ -475,17 +442,11 @@ module _ (s : Plan) (st : State) where
   quiet_call : (lane : ℕ) (o : Op) (q : Option Session) → may_change o ≡ false → session_calls s lane o q st ≡ []
   quiet_call lane o q e = grind arith
 
-  quiet : (lane : ℕ) (o : Op) (m : Mark) → may_change o ≡ false → event_changes s st (Line lane o) m ≡ []
-  quiet lane o m e = grind (arith, quiet_call)
-
   nothing : (b : Bool) (cs : List Change) → cs ≡ [] → (if not b then cs else []) ≡ []
   nothing b cs e = grind arith
 
   stays_quiet : (told : Reply) (lane : ℕ) (o : Op) (m : Mark) (b : Bool) → may_change o ≡ b → (may_change o ≡ true → leaves_all told ≡ true) → answered_by told (event_changes s st (Line lane o) m) ≡ []
-  stays_quiet told lane o m b e refused = grind (arith, common_steps, nothing, quiet)
-
-  of_mark : (m : Mark) (cs : List Change) → answered_by (reply_of_mark m) cs ≡ cs
-  of_mark m cs = grind arith
+  stays_quiet told lane o m b e refused = grind (arith, common_steps, nothing, quiet_call)
 
   of_answer : (o : Option Order) (a : Answer) (cs : List Change) → answered_by (answer_reply o a) cs ≡ cs
   of_answer o a cs = grind arith
@@ -495,7 +456,7 @@ module _ (s : Plan) (st : State) where
 
   of_write : (v : ℕ) (w : Write) (m : Mark) (cs : List Change) → answered_by (write s v w m st).0 cs ≡ cs
   unfolding write
-  of_write v w m cs = of_mark m cs
+  of_write v w m cs = grind (arith, common_steps, nat_tests)
 
   of_revert : (v : ℕ) (k : Kept) (m : Mark) (cs : List Change) → answered_by (reverted_as s v k m st).0 cs ≡ cs
   of_revert v k m cs = grind arith
@@ -511,7 +472,7 @@ module _ (s : Plan) (st : State) where
       known clean = record { lane = lane; line = o; payload = payload; event = refl; writes = d; bytes = refl; clean = clean; free = subst (λ x. is_held st x ≡ false) (ap (λ (t : Target). t.volume) (sym (some_same _ _ e))) f }
   does_write _ lane o v b m r d e f g = absurd cc
 
-  owned : (lane : ℕ) (o : Op) (m : Mark) (q : Session) (x : State) → st.session ≡ Some q → Makes s (Line lane o) m st x (calls s lane o q st) → Makes s (Line lane o) m st x (session_calls s lane o st.session st)
+  owned : (lane : ℕ) (o : Op) (m : Mark) (q : Session) (x : State) → st.session ≡ Some q → Makes s (Line lane o) m st x (calls s o q st) → Makes s (Line lane o) m st x (session_calls s lane o st.session st)
   owned lane o m q x e h = subst (λ p. Makes s (Line lane o) m st x (session_calls s lane o p st)) (sym e) h
 
   one : (e : Event) (m : Mark) (c : Change) → Comes s e m st st c → Makes s e m st (apply st c) (c ∷ [])
@@ -537,7 +498,7 @@ module _ (s : Plan) (st : State) where
     begins = λ lane n all c m e f i.
         let x = record st { session = Some (opened lane c all); explicit = [] } in
         subst (λ q. Makes s (Line lane (op.Begin n all)) m st x (session_calls s lane (op.Begin n all) q st)) (sym e)
-        (subst (λ o. Makes s (Line lane (op.Begin n all)) m st x (SessionIs (option_map (λ y. opened lane y all) o) ∷ Names [] ∷ [])) (sym f)
+        (subst (λ o. Makes s (Line lane (op.Begin n all)) m st x (opens_as lane all o)) (sym f)
         (record { is = refl; come = (record { step = Opens lane c all; is = refl; due = (n, (refl, e, refl)) }, (inl refl, tt)) }));
     disables = λ lane w q m g i. owned lane (op.Disable w) m q _ g.stands
         (one (Line lane (op.Disable w)) m (CourseIs (called s st (Disables w) st.course))
@@ -567,17 +528,97 @@ module _ (s : Plan) (st : State) where
     completes = λ lane q m g i. owned lane op.Complete m q _ g.stands
         (makes_on s (Line lane op.Complete) m st true Completes (record { session = q; goes = g; course = refl }) refl);
     aborts = λ lane q m e i. owned lane op.Abort m q _ e (makes_fails s (Line lane op.Abort) m st AsyncCancelled);
-    ends = λ lane q m e i. owned lane op.End m q _ e (makes_end s (Line lane op.End) m st lane q);
+    ends = λ lane q m e i. owned lane op.End m q _ e (makes_end s (Line lane op.End) m st q);
     answers = λ w a m e i. subst (Makes s (AnswerEvent w a) m st _) (sym (of_answer (order_of_writer st w) a _)) (makes_answer s (AnswerEvent w a) m st w (said_of a) e);
     steps = λ m e i. subst (Makes s Provider m st _) (sym (of_step (open_group (left_now st)) (next_volume (left_now st)) m _)) (makes_stepped s Provider m st e refl);
     idles = λ m e i. makes_passes s Idle m st (idle_now st) refl;
   }
 
-  made_if : (b : Bool) (act : Act) → enabled s st act.event ≡ b → Makes s act.event act.mark st (after s st act) (if b && not (leaves_all (reply s st act)) then event_changes s st act.event act.mark else [])
-  made_if b act e = grind (arith, common_steps, after_enabled, covered, covers, after_not_enabled, makes_none)
+  made : (act : Act) → Makes s act.event act.mark st (after_if (enabled s st act.event) s st act) (changes s st act)
+  made act = grind (arith, common_steps, nat_tests, reply_is, covered, covers, makes_none)
 
-  pub made : (act : Act) → Makes s act.event act.mark st (after s st act) (changes s st act)
-  made act = made_if (enabled s st act.event) act refl
+-- ## the state after an act
+
+pub none_if_blocked : (s : Plan) (st : State) (act : Act) → enabled s st act.event ≡ false → changes s st act ≡ []
+none_if_blocked s st act e = ap (λ b. if b && not (leaves_all (reply s st act)) then event_changes s st act.event act.mark else []) e
+
+pub none_if_refused : (s : Plan) (st : State) (act : Act) → leaves_all (reply s st act) ≡ true → changes s st act ≡ []
+none_if_refused s st act e = grind (arith, common_steps, nat_tests)
+
+pub stays : (s : Plan) (st : State) (act : Act) → changes s st act ≡ [] → after s st act ≡ st
+unfolding after
+stays s st act e = ap (fold apply st) e
+
+pub after_is : (s : Plan) (st : State) (act : Act) → after s st act ≡ after_if (enabled s st act.event) s st act
+unfolding after
+after_is s st act = sym (made s st act).is
+
+pub after_enabled : (s : Plan) (st : State) (act : Act) → enabled s st act.event ≡ true → after s st act ≡ (happens s act.event act.mark st).1
+after_enabled s st act e = after_is s st act ∙ ap (λ b. after_if b s st act) e
+
+pub after_not_enabled : (s : Plan) (st : State) (act : Act) → enabled s st act.event ≡ false → after s st act ≡ st
+after_not_enabled s st act e = after_is s st act ∙ ap (λ b. after_if b s st act) e
+
+-- an act that is not enabled changes nothing
+pub after_by : (R : State → Type 0) (s : Plan) (st : State) (act : Act) → (enabled s st act.event ≡ true → R (happens s act.event act.mark st).1) → R st → R (after s st act)
+after_by x0 s st act h stays = grind (arith, after_enabled, after_not_enabled)
+
+-- with what the act is answered
+pub told_covered : (P : Event → Mark → Replied → Type 0) (s : Plan) (st : State) → Covers P s st → (act : Act) → enabled s st act.event ≡ true
+    → P act.event act.mark (reply s st act, after s st act)
+told_covered x0 s st k act e = grind (arith, reply_is, after_enabled, covered)
+
+pub after_covered : (R : State → Type 0) (s : Plan) (st : State) → Covers (Next R) s st → R st → (act : Act) → R (after s st act)
+after_covered R s st k h act = after_by R s st act (covered (Next R) s st k act.event act.mark) h
+
+-- ## a session call
+
+module _ (s : Plan) (st : State) where
+  abbrev pub after_call : Reply → List Change → State
+  after_call told cs = after_changes st (if not (leaves_all told) then cs else [])
+
+  call_begins : (b : Bool) (c : Course) → after_call (if b then Coded BadState else Coded AsyncPending) (goes_on true c st) ≡ (if b then refused BadState st else pending c st).1
+  call_begins b c = grind (arith, goes_on_own)
+
+  call_named : (n : Naming) → after_call (naming_reply n) (names n) ≡ (named_as n st).1
+  call_named n = grind arith
+
+  call_component : (mode : Mode) (w : ℕ) (name : List ℕ)
+      → after_call (component_reply mode s w name st) (names (naming (known_metas s st) w name st.explicit)) ≡ (component_in mode s w name st).1
+  call_component mode w name = grind (arith, call_named)
+
+  call_adds : (v : ℕ) (r : SetRow) (a b c : Bool) (x y z : VssResult) (o : Option VssResult) → is_pending_code x ≡ false → is_pending_code y ≡ false → is_pending_code z ≡ false
+      → (if a then Some x else if b then Some y else if c then Some z else None) ≡ o → after_call (fine_unless o) (AddsVolume r.number v ∷ []) ≡ (add_to v r o st).1
+  call_adds v r a b c x y z o e f g h = grind arith
+
+  call_add : (v : ℕ) (o : Option SetRow) → after_call (add_reply v o st) (adds v o) ≡ (add v o st).1
+  call_add v None = refl
+  call_add v (Some r) = call_adds v r
+      (is_in_set v (Some r)) (nat_le most_volumes (length r.volumes)) (nat_le most_images (length (history_of st v).images))
+      ObjectAlreadyExists MaximumNumberOfVolumesReached MaximumNumberOfSnapshotsReached (add_refusal v r st) refl refl refl refl
+
+  call_own : (lane : ℕ) (o : Op) (q : Session) → after_call (session_reply s o q st) (calls s o q st) ≡ (session_line s lane o q st).1
+  call_own lane op.Gather q = goes_on_own true (gathered (is_disabled s st) st.clock st.course) st
+  call_own lane (op.Component w full) q = call_component q.mode w (token s full)
+  call_own lane (op.Add v) q = call_add v (in_progress st)
+  call_own lane op.Prepare q = call_begins (has_no_volume (in_progress st)) (prepared (takers (length s.writers) (selected s q st)) st.clock st.course)
+  call_own lane op.Snapshot q = call_begins (has_no_volume (in_progress st)) (snapshot_begun (volumes_of (in_progress st)) st.clock st.course)
+  call_own lane op.Complete q = goes_on_own true (completing st.clock st.course) st
+  call_own lane op.Await q = ap (fold apply st) (nothing s st (leaves_all (await_reply q.last)) [] refl)
+  call_own lane op.Abort q = fails_now AsyncCancelled st
+  call_own lane op.End q = ends_session s q st
+  call_own lane _ q = refl
+
+  call_first : (lane : ℕ) (o : Op) → after_call (first_reply o) (begins lane o) ≡ (line_without_session lane o st).1
+  call_first lane o = grind arith
+
+  call_after : (lane : ℕ) (o : Op) (q : Option Session) → after_call (call_reply s o q st) (session_calls s lane o q st) ≡ (line_in s lane o q st).1
+  call_after lane o None = call_first lane o
+  call_after lane o (Some q) = call_own lane o q
+
+  -- a call that goes is answered so, and changes this
+  pub line_is : (lane : ℕ) (o : Op) (q : Option Session) → line_in s lane o q st ≡ (call_reply s o q st, after_call (call_reply s o q st) (session_calls s lane o q st))
+  line_is lane o q = grind (arith, told_call, call_after)
 
 -- ## the rule of changes
 
@@ -605,7 +646,8 @@ module _ (P : State → Type 0) (s : Plan) (e : Event) (m : Mark) (st : State) (
 
 -- what each change keeps, where it comes, every act keeps
 pub by_changes : (P : State → Type 0) (s : Plan) (st : State) (act : Act) → ((c : Change) (x : State) → Comes s act.event act.mark st x c → P x → P (apply x c)) → P st → P (after s st act)
-by_changes P s st act keeps h = let makes = made s st act in subst P (sym makes.is) (by_list P s act.event act.mark st keeps (changes s st act) st makes.come h)
+unfolding after
+by_changes P s st act keeps h = by_list P s act.event act.mark st keeps (changes s st act) st (made s st act).come h
 
 pub by_all_changes : (P : State → Type 0) (s : Plan) → ((e : Event) (m : Mark) (st : State) (c : Change) (x : State) → Comes s e m st x c → P x → P (apply x c)) → (st : State) (acts : List Act) → P st → P (fold (after s) st acts)
 by_all_changes P s keeps st [] h = h

@@ -1,44 +1,22 @@
 -- A set that completes has its image on each of its volumes in that act.
 use Rattle.std.proofs.Common.{◌≡◌, ℕ, ◌+◌, ◌==◌, ◌<◌, zero, suc, List, [], ◌∷◌, ◌++◌, ◌⊎◌, Option, Some, None, refl, Bool, true, false, map, filter, length, ap, sym, ◌∙◌, subst, find, fold, inl, inr, arith}
-use Rattle.std.specs.Prelude.{is_some, ◌&&◌, not, if◌then◌else◌}
-use Rattle.std.proofs.lemmas.List.Folds.{list_any-append}
-use Rattle.std.proofs.lemmas.Bool.{and_parts, eq-eqb, or_parts}
-use Rattle.std.proofs.lemmas.Grind.{common_steps}
-use Rattle.vss_names.specs.declared.context.Context.{Context}
-use Rattle.vss_names.specs.declared.set_outcome.SetOutcome.{SetOutcome}
-use Rattle.vss_names.specs.declared.set_outcome.SetOutcome.TheVariants.{Running as RunningSet}
-use Rattle.vss_names.specs.declared.vss_result.VssResult.{VssResult}
-use Rattle.vss_names.specs.declared.vss_result.VssResult.TheVariants.{AsyncCancelled}
-use Rattle.writer_state.specs.declared.said.Said.{Said}
-use Rattle.write_history.specs.declared.mark.Mark.{Mark}
-use Rattle.write_history.specs.declared.mark.Mark.TheVariants.{Clean}
-use Rattle.write_history.specs.History.{Write, Image, History, point_in, dropped, written}
-use Rattle.write_history.specs.Slots.{Placed, gone_up_to}
-use Rattle.set_agenda.specs.declared.group.Group.{Group}
-use Rattle.set_agenda.specs.declared.kind.Kind.{Kind}
-use Rattle.set_agenda.specs.declared.kind.Kind.TheVariants.{Gather, Prepare, Snapshot, Complete}
-use Rattle.set_agenda.specs.declared.member.Member.{Member}
-use Rattle.set_agenda.specs.declared.place.Place.{Place}
-use Rattle.set_agenda.specs.Agenda.{Agenda, Open, with_group, groups_left, open_group, is_among, is_done, is_working, all_say}
-use Rattle.set_agenda.specs.Course.{Course, posted, failed as course_failed, settled_if, settled, begun, stepped as course_stepped, change_at, released}
-use Rattle.requestor.specs.Session.{Session}
-use Rattle.scenario.specs.Plan.{Plan}
-use Rattle.writer_calls.specs.Script.{said_of}
-use Rattle.vss_model.specs.State.{State, SetRow, Kept, is_complete, in_progress, row_of, row_changed, history_of, left_now, has_image, kept_if, kept_of, kept_image}
-use Rattle.vss_model.specs.Ending.{Ending, ending, concluded, followed, runs, failed_in, failed}
-use Rattle.vss_model.specs.Images.{cleared, has_lost_image, set_loses_image, with_room_if, put, write, reverted_as, is_in_set}
-use Rattle.vss_model.specs.Sessions.{begin_in, new_set, new_number, start_set, change_set, with_volume, has_no_volume, closed}
-use Rattle.vss_model.specs.Steps.{answered, cut_if as image_cut_if, cut_each, with_cut, row_cut, cut_set, is_flush, is_failed_step, stepped_as, stepped, ticked, later}
-use Rattle.vss_model.specs.Acts.{idle_now, Act, after, state}
-use Rattle.vss_model.specs.Cut.{is_cut_group}
-use Rattle.vss_model.specs.Facts.{NumberedFrom, has_failed}
+use Rattle.std.specs.Prelude.{is_some, ◌&&◌, not}
+use Rattle.vss_model.proofs.Terms.{list_any-append, and_parts, eq-eqb, or_parts, common_steps, Context, SetOutcome, Running as RunningSet, VssResult}
+use Rattle.vss_model.proofs.Terms.{AsyncCancelled, Said, Mark, Clean, Write, Image, History, point_in, dropped, written, Placed, gone_up_to, Group, Kind}
+use Rattle.vss_model.proofs.Terms.{Gather, Prepare, Snapshot, Complete, Member, Place, Agenda, Open, with_group, groups_left, open_group, is_among, is_done}
+use Rattle.vss_model.proofs.Terms.{is_working, all_say, Course, posted, failed as course_failed, settled, begun, stepped as course_stepped}
+use Rattle.vss_model.proofs.Terms.{change_at, released, Session, Plan, said_of, State, SetRow, Kept, in_progress, row_of, row_changed, history_of, left_now}
+use Rattle.vss_model.proofs.Terms.{has_image, kept_of, kept_image, Ending, ending, runs, has_lost_image, set_loses_image, is_in_set, new_set}
+use Rattle.vss_model.proofs.Terms.{new_number, with_volume, has_no_volume, cut_if as image_cut_if, cut_each, row_cut, is_flush, is_failed_step}
+use Rattle.vss_model.proofs.Terms.{idle_now, Act, after, state, is_cut_group, NumberedFrom, has_failed}
+use Rattle.vss_model.specs.State.{is_complete}
+use Rattle.vss_model.proofs.StateForm.{concluded, followed, failed_in, failed, cleared, with_room_if, put, write, reverted_as, begin_in, start_set, change_set, closed, answered, cut_set, stepped_as, stepped, ticked, later}
 use Rattle.vss_model.proofs.Appending.{state-append}
-use Rattle.vss_model.proofs.ByEvent.{Covers, Next, after_covered, some_same, by_if}
-use Rattle.vss_model.proofs.Rule.{no_set_of}
+use Rattle.vss_model.proofs.ByEvent.{Covers, Next, no_set_of, some_same, by_if}
+use Rattle.vss_model.proofs.Changes.{after_covered}
 use Rattle.vss_model.proofs.Orderly.{true_not_false, other_way}
-use Rattle.vss_model.proofs.OrderlyActs.{Moves, MovesOn, moves_answered, moves_stepped, moves_timed, orderly}
+use Rattle.vss_model.proofs.OrderlyActs.{MovesOn, moves_answered, moves_stepped, moves_timed, orderly}
 use Rattle.vss_model.proofs.CourseCalls.{Settles, Says, Call, call_answered, call_stepped, call_timed}
-use Rattle.vss_model.proofs.LogRule.{unspoken}
 use Rattle.vss_model.proofs.CutLog.{is_cut_made}
 use Rattle.vss_model.proofs.HeldOfSet.{find-row_cut, volumes-row_cut_if}
 use Rattle.vss_model.proofs.HeldWrites.{apart}
@@ -88,12 +66,8 @@ completes_made writers (Some a) o b p n e f (inr (inr c)) =
     made_back c.said c.now c.ws a (no_cut_now writers a o b p (n a refl) c)
     (running_made (is_done (groups_left (all_say c.said c.now c.ws a))) (all_say c.said c.now c.ws a) o b p (λ d. d) e f c.settles)
 
--- what goes on was made before
-goes_made : (done : Bool) (a : Agenda) (o : SetOutcome) (b : Option Agenda) (p : SetOutcome) → Settles done a o b p → Made b → is_cut_made a.log ≡ true
-goes_made done a o b p s h = grind arith
-
 still_made : (writers : Bool) (a : Option Agenda) (o : SetOutcome) (b : Option Agenda) (p : SetOutcome) → ((x : Agenda) → a ≡ Some x → NoCut writers (groups_left x)) → Call writers a o b p → Made b → Made a
-still_made writers a o b p n c h = grind (arith, goes_made, made_back, no_cut_now)
+still_made writers a o b p n c h = grind (arith, common_steps, made_back, no_cut_now)
 
 -- ## images that stand
 
@@ -111,25 +85,7 @@ imaged_along n vs hs ks e keeps h v f l = keeps v (h v f (subst (λ m. v < m) e 
 -- the images of another set go
 other_dropped : (m n : ℕ) (images : List Image) → (m == n) ≡ false → is_some (point_in n images) ≡ true → is_some (point_in n (filter (λ i. not (i.set == m)) images)) ≡ true
 other_dropped m n [] e f = f
-other_dropped m n (i ∷ images) e f = by_test (i.set == m) (i.set == n) refl refl f (other_dropped m n images e) where
-  apart_from : (a m n : ℕ) → (a == m) ≡ true → (a == n) ≡ true → (m == n) ≡ false → ⊥
-  apart_from a m n e f g = grind arith
-
-  found : (b : Bool) → b ≡ true → is_some (if b then Some i.point else point_in n (filter (λ i. not (i.set == m)) images)) ≡ true
-  found true e = refl
-  found false e = absurd cc
-
-  later_found : (b : Bool) → is_some (point_in n (filter (λ i. not (i.set == m)) images)) ≡ true → is_some (if b then Some i.point else point_in n (filter (λ i. not (i.set == m)) images)) ≡ true
-  later_found true h = refl
-  later_found false h = h
-
-  by_test : (b c : Bool) → (i.set == m) ≡ b → (i.set == n) ≡ c → is_some (if c then Some i.point else point_in n images) ≡ true
-      → (is_some (point_in n images) ≡ true → is_some (point_in n (filter (λ i. not (i.set == m)) images)) ≡ true)
-      → is_some (point_in n (if not b then i ∷ filter (λ i. not (i.set == m)) images else filter (λ i. not (i.set == m)) images)) ≡ true
-  by_test true true g h f ih = absurd (apart_from i.set m n g h e)
-  by_test true false g h f ih = ih f
-  by_test false true g h f ih = found (i.set == n) h
-  by_test false false g h f ih = later_found (i.set == n) (ih f)
+other_dropped m n (i ∷ images) e f = grind (arith, common_steps, other_dropped m n images e)
 
 keeps_dropped : (m n : ℕ) → (m == n) ≡ false → (h : History) → KeepsImage n h (dropped m h)
 keeps_dropped m n e h f = other_dropped m n h.images e f
@@ -147,7 +103,7 @@ none_lost n m (p ∷ ps) (x ∷ hs) e (suc v) f = none_lost n m ps hs (or_parts 
 -- the images that the Cut step gives
 last_has : (images : List Image) (n p : ℕ) → is_some (point_in n (images ++ record { set = n; point = p } ∷ [])) ≡ true
 last_has [] n p = grind (arith, common_steps, eq-eqb)
-last_has (i ∷ images) n p = let ih = last_has images n p in grind (arith, common_steps)
+last_has (i ∷ images) n p = grind (arith, common_steps, last_has images n p)
 
 cut_has : (b : Bool) (n : ℕ) (x : History) → b ≡ true → has_image n (image_cut_if b n x) ≡ true
 cut_has b n x e = grind (arith, last_has)
@@ -155,12 +111,7 @@ cut_has b n x e = grind (arith, last_has)
 cut_images : (n : ℕ) (vs : List ℕ) (u v : ℕ) (hs : List History) → is_among (u + v) vs ≡ true → v < length hs → has_image n (at (cut_each n vs u hs) v) ≡ true
 cut_images n vs u v [] e l = absurd (omega (arith, l))
 cut_images n vs u zero (x ∷ hs) e l = grind (arith, common_steps, cut_has)
-cut_images n vs u (suc v) (x ∷ hs) e l = cut_images n vs (u + 1) v hs (subst (λ w. is_among w vs ≡ true) (shift u v) e) (fewer v (length hs) l) where
-  shift : (a b : ℕ) → a + suc b ≡ (a + 1) + b
-  shift a b = omega arith
-
-  fewer : (a b : ℕ) → suc a < suc b → a < b
-  fewer a b l = omega (arith, l)
+cut_images n vs u (suc v) (x ∷ hs) e l = grind (arith, common_steps, cut_images n vs (u + 1) v hs)
 
 imaged_cut : (n : ℕ) (vs : List ℕ) (hs : List History) → Imaged n vs (cut_each n vs 0 hs)
 imaged_cut n vs hs v e l = grind (arith, cut_images, as_many_cut)
@@ -177,13 +128,9 @@ clash o r e f = grind arith
 imaged_none : (x : State) → x.course.agenda ≡ None → IsImaged x
 imaged_none x e r f m = absurd (subst Made e m)
 
-imaged_ends : (a b : Option Agenda) (c : Course) (x : State) → c.agenda ≡ b → Moves a x.course.outcome b c.outcome → ((r : SetRow) → in_progress x ≡ Some r → Made b → Imaged r.number r.volumes x.volumes)
-    → IsImaged (concluded (ending x.course.outcome c.outcome (is_some a) b) (record x { course = c }))
-imaged_ends a b c x e m h = grind arith
-
 imaged_followed : (c : Course) (x : State) → MovesOn x.course c → ((r : SetRow) → in_progress x ≡ Some r → Made c.agenda → Imaged r.number r.volumes x.volumes) → IsImaged (followed (runs x) c x)
 unfolding followed
-imaged_followed c x m h = imaged_ends x.course.agenda c.agenda c x refl m h
+imaged_followed c x m h = grind (arith, common_steps)
 
 imaged_answers : (w : ℕ) (said : Said) (st : State) → IsImaged st → IsImaged (answered w said st)
 unfolding answered
@@ -242,12 +189,8 @@ imaged_write : (s : Plan) (v : ℕ) (w : Write) (mark : Mark) (st : State) → I
 unfolding write
 imaged_write s v w mark st h = imaged_put v w mark _ (imaged_room (set_loses_image (in_progress st) st.volumes (cleared s v w.block st).volumes) s v w.block st refl h)
 
--- a volume that the set has not changes
-imaged_other : (f : History → History) (v : ℕ) (st : State) → is_in_set v (in_progress st) ≡ false → IsImaged st → IsImaged (record st { volumes = change_at v f st.volumes })
-imaged_other f v st e h r g m u i l = grind (arith, change_other, apart, as_many_change)
-
 imaged_revert : (s : Plan) (v : ℕ) (k : Kept) (mark : Mark) (st : State) → is_in_set v (in_progress st) ≡ false → IsImaged st → IsImaged (reverted_as s v k mark st).1
-imaged_revert s v k mark st e h = grind (arith, imaged_other)
+imaged_revert s v k mark st e h = grind (arith, common_steps, change_other, apart, as_many_change)
 
 -- a complete set is not the one in progress
 complete_other : (st : State) (m : ℕ) (r : SetRow) → NumberedFrom 1 st.sets → in_progress st ≡ Some r → has_complete st.sets m ≡ true → (m == r.number) ≡ false
@@ -258,11 +201,8 @@ imaged_deletes_set n st o e h r f m =
     imaged_along r.number r.volumes st.volumes (map (dropped n) st.volumes) (as_many_map (dropped n) st.volumes)
     (each_map (KeepsImage r.number) (keeps_same r.number) (dropped n) (keeps_dropped n r.number (complete_other st n r o f e)) st.volumes) (h r f m)
 
-kept_complete : (b : Bool) (r : SetRow) (p : Option ℕ) (k : Kept) → kept_if b r p ≡ Some k → b ≡ true
-kept_complete b r p k e = grind arith
-
 kept_has_complete : (n : ℕ) (rows : List SetRow) (o : Option SetRow) (p : Option ℕ) (k : Kept) → find (λ q. q.number == n) rows ≡ o → kept_of o p ≡ Some k → has_complete rows k.row.number ≡ true
-kept_has_complete n rows o p k e f = grind (arith, kept_point, row_number, complete_found, kept_complete)
+kept_has_complete n rows o p k e f = grind (arith, common_steps, kept_point, row_number, complete_found)
 
 imaged_deletes_image : (n v : ℕ) (k : Kept) (st : State) → NumberedFrom 1 st.sets → kept_image st n v ≡ Some k → IsImaged st → IsImaged (record st { volumes = change_at v (dropped k.row.number) st.volumes })
 imaged_deletes_image n v k st o e h r f m =
@@ -275,19 +215,13 @@ imaged_deletes_image n v k st o e h r f m =
 imaged_begin : (lane : ℕ) (all : Bool) (c : Option Context) (st : State) → IsImaged st → IsImaged (begin_in lane all c st).1
 imaged_begin lane all c st h = grind arith
 
-unmade_if : (done : Bool) (k j : Kind) (ms : List Member) (vs : List ℕ) (now : ℕ) (c : Course) → Made (settled_if done j (record c { agenda = Some (unspoken k ms vs now) })).agenda → ⊥
-unmade_if done k j ms vs now c m = grind arith
-
 unmade_begun : (k : Kind) (ms : List Member) (vs : List ℕ) (now : ℕ) (c : Course) → Made (begun k ms vs now c).agenda → ⊥
 unfolding begun posted settled
-unmade_begun k ms vs now c m = unmade_if (is_done (groups_left (unspoken k ms vs now))) k k ms vs now c m
-
-agenda-concluded : (e : Ending) (st : State) → (concluded e st).course.agenda ≡ st.course.agenda
-agenda-concluded e st = grind arith
+unmade_begun k ms vs now c m = grind (arith, common_steps)
 
 agenda_followed : (ran : Bool) (c : Course) (st : State) → (followed ran c st).course.agenda ≡ c.agenda
 unfolding followed
-agenda_followed ran c st = agenda-concluded (ending st.course.outcome c.outcome ran c.agenda) (record st { course = c })
+agenda_followed ran c st = grind (arith, common_steps)
 
 imaged_begun : (k : Kind) (ms : List Member) (vs : List ℕ) (now : ℕ) (c : Course) (st : State) → IsImaged (followed true (begun k ms vs now c) st)
 imaged_begun k ms vs now c st r e m = absurd (unmade_begun k ms vs now c (subst Made (agenda_followed true (begun k ms vs now c) st) m))
@@ -342,26 +276,17 @@ incomplete_ended : (e : Ending) (n : ℕ) (x : State) → is_complete x.course.o
 incomplete_ended e n x x3 h = grind (arith, incomplete_settled)
 
 module _ (n : ℕ) (vs : List ℕ) where
-  done_if : (b : Bool) (ran : Bool) (c : Course) (x : State) → is_complete c.outcome ≡ b → has_complete x.sets n ≡ false → (b ≡ true → Imaged n vs x.volumes) → Done n vs (concluded (ending x.course.outcome c.outcome ran c.agenda) (record x { course = c }))
-  done_if b ran c x e h images = grind (arith, volumes_ended, incomplete_ended)
-
   done_followed : (ran : Bool) (c : Course) (x : State) → has_complete x.sets n ≡ false → (is_complete c.outcome ≡ true → Imaged n vs x.volumes) → Done n vs (followed ran c x)
   unfolding followed
-  done_followed ran c x h images = done_if (is_complete c.outcome) ran c x refl h images
+  done_followed ran c x h images = grind (arith, common_steps, volumes_ended, incomplete_ended)
 
   done_failed : (o : Option SetRow) (why : VssResult) (x : State) → has_complete x.sets n ≡ false → has_complete (failed_in o why x).sets n ≡ false
   unfolding course_failed
   done_failed o why x h = grind (arith, incomplete_settled)
 
-  done_room : (b : Bool) (x : State) → has_complete x.sets n ≡ false → has_complete (with_room_if b x).sets n ≡ false
-  done_room b x h = grind (arith, done_failed)
-
-  done_put : (v : ℕ) (w : Write) (mark : Mark) (x : State) → has_complete x.sets n ≡ false → has_complete (put v w mark x).sets n ≡ false
-  done_put v w mark x h = grind arith
-
   done_write : (s : Plan) (v : ℕ) (w : Write) (mark : Mark) (st : State) → has_complete st.sets n ≡ false → Done n vs (write s v w mark st).1
   unfolding write
-  done_write s v w mark st h = grind (arith, done_put, done_room)
+  done_write s v w mark st h = grind (arith, common_steps, done_failed)
 
   done_revert : (s : Plan) (v : ℕ) (k : Kept) (mark : Mark) (st : State) → has_complete st.sets n ≡ false → Done n vs (reverted_as s v k mark st).1
   done_revert s v k mark st h = grind arith
@@ -396,14 +321,9 @@ module _ (n : ℕ) (vs : List ℕ) where
   unfolding stepped
   done_steps mark st c w run h images = grind (arith, done_stepped_as)
 
--- an agenda that begins does not complete the set
-pub begun_incomplete_if : (done : Bool) (k : Kind) (ms : List Member) (vs : List ℕ) (now : ℕ) (c : Course) → is_done (groups_left (unspoken k ms vs now)) ≡ done → c.outcome ≡ RunningSet
-    → is_complete (settled_if done k (record c { agenda = Some (unspoken k ms vs now) })).outcome ≡ true → ⊥
-begun_incomplete_if done k ms vs now c d e f = grind arith
-
 pub begun_incomplete : (k : Kind) (ms : List Member) (vs : List ℕ) (now : ℕ) (c : Course) → c.outcome ≡ RunningSet → is_complete (begun k ms vs now c).outcome ≡ true → ⊥
 unfolding begun posted settled
-begun_incomplete k ms vs now c e f = begun_incomplete_if (is_done (groups_left (unspoken k ms vs now))) k ms vs now c refl e f
+begun_incomplete k ms vs now c e f = grind (arith, common_steps)
 
 done_begun : (n : ℕ) (us : List ℕ) (k : Kind) (ms : List Member) (vs : List ℕ) (now : ℕ) (c : Course) (st : State) → c.outcome ≡ RunningSet → has_complete st.sets n ≡ false → Done n us (followed true (begun k ms vs now c) st)
 done_begun n us k ms vs now c st e h = done_followed n us true (begun k ms vs now c) st h (λ f. absurd (begun_incomplete k ms vs now c e f))
@@ -412,10 +332,8 @@ done_begun n us k ms vs now c st e h = done_followed n us true (begun k ms vs no
 done_at_cut : (r : SetRow) (o : Option SetRow) (st : State) → o ≡ Some r → has_complete st.sets r.number ≡ false → Done r.number r.volumes (followed (runs st) (course_stepped true st.clock st.course) (cut_set o st))
 done_at_cut r None st e h = absurd cc
 done_at_cut r (Some q) st e h =
-    subst (λ (x : SetRow). Done r.number r.volumes (followed (runs st) (course_stepped true st.clock st.course) (cut_set (Some x) st))) (sym (some_same q r e))
-    (done_followed r.number r.volumes (runs st) (course_stepped true st.clock st.course) (cut_set (Some r) st)
-    (incomplete_map (row_cut r.number st.clock) (λ x. changed_number (x.number == r.number) (with_cut st.clock) x refl) (λ x. changed_result (x.number == r.number) (with_cut st.clock) x refl) r.number st.sets h)
-    (λ f. imaged_cut r.number r.volumes st.volumes))
+    let fact = done_followed r.number r.volumes (runs st) (course_stepped true st.clock st.course) (cut_set (Some r) st) in
+    grind (arith, common_steps, some_same q r e, incomplete_map (row_cut r.number st.clock), imaged_cut r.number r.volumes st.volumes)
 
 done_step : (b : Bool) (r : SetRow) (mark : Mark) (st : State) → is_cut_group (open_group (left_now st)) ≡ b → is_working (left_now st) ≡ true → in_progress st ≡ Some r → st.course.outcome ≡ RunningSet → has_complete st.sets r.number ≡ false
     → (Made st.course.agenda → Imaged r.number r.volumes st.volumes) → Done r.number r.volumes (stepped mark st)

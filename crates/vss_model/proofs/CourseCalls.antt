@@ -2,6 +2,7 @@
 -- or something is said at the open place by members that are waited for there.
 use Rattle.std.proofs.Common.{◌≡◌, ℕ, List, [], ◌∷◌, ◌⊎◌, Option, Some, None, refl, Bool, true, false, ap, sym, subst, inl, inr, arith}
 use Rattle.std.specs.Prelude.{option_map, ◌&&◌, not}
+use Rattle.std.proofs.lemmas.Grind.{common_steps}
 use Rattle.vss_names.specs.declared.order.Order.{Order}
 use Rattle.vss_names.specs.declared.set_outcome.SetOutcome.{SetOutcome}
 use Rattle.vss_names.specs.declared.vss_result.VssResult.{VssResult}
@@ -11,9 +12,9 @@ use Rattle.writer_state.specs.WriterState.{is_ok}
 use Rattle.set_agenda.specs.declared.group.Group.{Group}
 use Rattle.set_agenda.specs.declared.limit.Limit.{Limit}
 use Rattle.set_agenda.specs.declared.place.Place.{Place}
-use Rattle.set_agenda.specs.Agenda.{Agenda, Open, is_orders, is_freeze, waited_for, with_group, left_from, places, groups_left, left, open_place, is_asked, is_among, open_order, order_now, waits_now, next_member, is_done, is_working, all_say}
+use Rattle.set_agenda.specs.Agenda.{Agenda, Open, is_orders, is_freeze, left_from, places, groups_left, left, open_place, is_asked, is_among, open_order, order_now, waits_now, next_member, is_done, is_working, all_say}
 use Rattle.set_agenda.specs.Limits.{Running as RunningLimit, running_limits, spent_of}
-use Rattle.set_agenda.specs.Course.{Course, posted, outcome_after, failed as course_failed, settled_in, settled, is_decisive, told, decided, answered_to}
+use Rattle.set_agenda.specs.Course.{Course, posted, outcome_after, failed as course_failed, settled, is_decisive, told, decided, answered_to}
 use Rattle.set_agenda.specs.Course.{answered as course_answered, worked, stepped_as as course_stepped_as, stepped as course_stepped, freeze_limit, lost_to}
 use Rattle.set_agenda.specs.Course.{fails_set, lost_decided, treated_as, treated, timed as course_timed}
 use Rattle.vss_model.specs.Facts.{has_failed}
@@ -80,23 +81,16 @@ first_among w ws = grind arith
 -- of a group that is left somebody is waited for
 pub head_waits : (a : Agenda) (ps : List Place) → is_working (left_from a ps) ≡ true → is_among (next_member (left_from a ps)) (waits_now (left_from a ps)) ≡ true
 head_waits a [] e = absurd cc
-head_waits a (p ∷ ps) e = at_group p (waited_for a p) (left_from a ps) (head_waits a ps) e where
-  at_group : (p : Place) (ws : List ℕ) (later : List Open) → (is_working later ≡ true → is_among (next_member later) (waits_now later) ≡ true) → is_working (with_group p ws later) ≡ true
-      → is_among (next_member (with_group p ws later)) (waits_now (with_group p ws later)) ≡ true
-  at_group p [] later ih e = ih e
-  at_group p (w ∷ ws) later ih e = first_among w ws
+head_waits a (p ∷ ps) e = grind (arith, common_steps, first_among, head_waits a ps)
 
 pub now_orders : (os : List Open) (o : Order) → order_now os ≡ Some o → is_orders (open_place os).group ≡ true
 now_orders os o e = grind arith
 
 -- ## settled
 
-pub settles_in : (x : Option Agenda) (b : Agenda) (o : SetOutcome) (d : Course) → d.agenda ≡ x → x ≡ Some b → d.outcome ≡ o → Settles (is_done (groups_left b)) b o (settled_in x d).agenda (settled_in x d).outcome
-settles_in x b o d e f g = grind arith
-
 pub settles : (b : Agenda) (o : SetOutcome) (d : Course) → d.agenda ≡ Some b → d.outcome ≡ o → Settles (is_done (groups_left b)) b o (settled d).agenda (settled d).outcome
 unfolding settled
-settles b o d e f = settles_in d.agenda b o d refl e f
+settles b o d e f = grind (arith, common_steps)
 
 call_posted : (writers : Bool) (before c d : Course) → IsCall writers c d → IsCall writers c (posted before d)
 unfolding posted
@@ -107,9 +101,6 @@ call_posted writers before c d h = h
 call_failed : (writers : Bool) (a : Agenda) (o : SetOutcome) (why : VssResult) (d : Course) → Call writers (Some a) o (course_failed why d).agenda (course_failed why d).outcome
 unfolding course_failed
 call_failed writers a o why d = inl (record { agenda = refl; failed = refl })
-
-call_same : (writers : Bool) (a : Option Agenda) (o : SetOutcome) → Call writers a o a o
-call_same writers a o = grind arith
 
 along : (writers : Bool) (a : Option Agenda) (c d : Course) → c.agenda ≡ a → Call writers a c.outcome d.agenda d.outcome → IsCall writers c d
 along writers a c d e h = subst (λ x. Call writers x c.outcome d.agenda d.outcome) (sym e) h
@@ -132,10 +123,10 @@ call_decided false w o said now a c e f g =
     says_told true o said now (w ∷ []) a c e (λ x h. one_alone w x (waits_now os) asked.1 h) (mild (is_freeze (open_place os).group) (is_decisive o) (is_ok said) (open_decides os w o f) g) asked.0
 
 call_answered_to : (o : Option Order) (w : ℕ) (said : Said) (now : ℕ) (a : Agenda) (c : Course) → c.agenda ≡ Some a → open_order (groups_left a) w ≡ o → Call true (Some a) c.outcome (answered_to o w said now c).agenda (answered_to o w said now c).outcome
-call_answered_to o w said now a c e f = grind (arith, call_same, call_decided)
+call_answered_to o w said now a c e f = grind (arith, common_steps, call_decided)
 
 call_answered_at : (x : Option Agenda) (w : ℕ) (said : Said) (now : ℕ) (c : Course) → c.agenda ≡ x → IsCall true c (answered_to (open_order (left x) w) w said now c)
-call_answered_at x w said now c e = grind (arith, call_same, along, call_answered_to)
+call_answered_at x w said now c e = grind (arith, common_steps, along, call_answered_to)
 
 pub call_answered : (w : ℕ) (said : Said) (now : ℕ) (c : Course) → IsCall true c (course_answered w said now c)
 call_answered w said now c = call_posted true c c _ (call_answered_at c.agenda w said now c refl)
@@ -168,9 +159,8 @@ call_stepped ok now c f = call_posted false c c _ (call_stepped_as ok c.agenda n
 call_lost_to : (o : Option Order) (now : ℕ) (a : Agenda) (c : Course) → c.agenda ≡ Some a → order_now (groups_left a) ≡ o → fails_set o ≡ false → Call true (Some a) c.outcome (settled (lost_to o now c)).agenda (settled (lost_to o now c)).outcome
 call_lost_to None now a c e f g = inr (inl (record { done = is_done (groups_left a); is_done = λ h. h; settles = settles a c.outcome c e refl }))
 call_lost_to (Some o) now a c e f g =
-    let os = groups_left a in
-    subst (λ ws. Call true (Some a) c.outcome (settled (told o Lost now ws c)).agenda (settled (told o Lost now ws c)).outcome) (ap (λ x. waits_now (left x)) (sym e))
-    (says_told true o Lost now (waits_now os) a c e (λ w h. h) (mild (is_freeze (open_place os).group) (is_decisive o) (is_ok Lost) (now_decides os o f) (rw g refl)) (now_orders os o f))
+    let os = groups_left a in let fact = mild (is_freeze (open_place os).group) (is_decisive o) (is_ok Lost) (now_decides os o f) (rw g refl) in
+    grind (arith, common_steps, says_told true o Lost now (waits_now os) a c e, now_decides os o f, now_orders os o f)
 
 call_lost_decided : (fails : Bool) (now : ℕ) (a : Agenda) (c : Course) → c.agenda ≡ Some a → fails_set (order_now (groups_left a)) ≡ fails
     → Call true (Some a) c.outcome (lost_decided fails (lost_to (order_now (groups_left a)) now c)).agenda (lost_decided fails (lost_to (order_now (groups_left a)) now c)).outcome
@@ -180,10 +170,10 @@ call_treated_as : (l : Limit) (now : ℕ) (a : Agenda) (c : Course) → c.agenda
 call_treated_as l now a c e = grind (arith, call_failed, call_lost_decided)
 
 call_treated : (l : Option RunningLimit) (now : ℕ) (a : Agenda) (c : Course) → c.agenda ≡ Some a → Call true (Some a) c.outcome (treated l now c).agenda (treated l now c).outcome
-call_treated l now a c e = grind (arith, call_same, call_treated_as)
+call_treated l now a c e = grind (arith, common_steps, call_treated_as)
 
 call_timed_at : (x : Option Agenda) (now : ℕ) (c : Course) → c.agenda ≡ x → IsCall true c (treated (spent_of now (running_limits (freeze_limit c) x)) now c)
-call_timed_at x now c e = grind (arith, call_same, along, call_treated)
+call_timed_at x now c e = grind (arith, common_steps, along, call_treated)
 
 pub call_timed : (now : ℕ) (c : Course) → IsCall true c (course_timed now c)
 call_timed now c = call_posted true c c _ (call_timed_at c.agenda now c refl)

@@ -1,20 +1,8 @@
 -- A fact of the course alone: what the calls of the course keep, every act keeps.
 use Rattle.std.proofs.Common.{ℕ, List, [], ◌∷◌, ◌++◌, Some, Bool, length, fold, map, sym, subst}
-use Rattle.set_agenda.specs.declared.kind.Kind.{Kind}
-use Rattle.set_agenda.specs.declared.kind.Kind.TheVariants.{Gather, Prepare, Snapshot, Complete}
-use Rattle.set_agenda.specs.declared.member.Member.{Member}
-use Rattle.set_agenda.specs.Agenda.{is_among}
-use Rattle.set_agenda.specs.Course.{Course, members_from, released}
-use Rattle.set_agenda.proofs.CourseRule.{IsKeptInCourse, course_answered, course_stepped, course_timed, course_begun}
-use Rattle.writer_state.specs.WriterRow.{row_gathered}
-use Rattle.component_doc.specs.Selection.{takers}
-use Rattle.scenario.specs.Plan.{Plan}
-use Rattle.write_history.specs.declared.mark.Mark.{Mark}
-use Rattle.vss_model.specs.declared.event.Event.{Event}
-use Rattle.vss_model.specs.State.{State, start}
-use Rattle.vss_model.specs.Sessions.{selected}
-use Rattle.vss_model.specs.Acts.{Act, after, state}
-use Rattle.vss_model.specs.Changes.{Change, CourseIs, apply}
+use Rattle.vss_model.proofs.Terms.{Kind, Gather, Prepare, Snapshot, Complete, Member, is_among, Course, members_from, released, IsKeptInCourse, course_answered}
+use Rattle.vss_model.proofs.Terms.{course_stepped, course_timed, course_begun, row_gathered, takers, Plan, Mark, Event, State, start, selected, Act, after}
+use Rattle.vss_model.proofs.Terms.{state, Change, CourseIs, apply}
 use Rattle.vss_model.proofs.Changes.{CourseCall, Answers, Steps, Times, Gathers, Prepares, Snapshots, Completes, Disables, Fails, Releases, called, IsDue, Comes, by_all_changes}
 
 pub record IsKeptByCalls (P : Course → Type 0) : Type 0 where

@@ -1,14 +1,9 @@
 -- What the images of a volume show: each a beginning of its effective writes, namely those at its set's cut.
-use Rattle.std.proofs.Common.{◌≡◌, ℕ, ◌+◌, ◌-◌, ◌==◌, ◌<◌, ◌≤◌, zero, suc, List, [], ◌∷◌, ◌++◌, Option, Some, None, refl, Bool, true, false, map, filter, length, take, ap, ◌∙◌, subst, arith}
+use Rattle.std.proofs.Common.{◌≡◌, ℕ, ◌+◌, ◌-◌, ◌==◌, ◌<◌, ◌≤◌, zero, suc, List, [], ◌∷◌, ◌++◌, Option, Some, None, refl, Bool, true, false, map, filter, length, take, arith}
 use Rattle.std.specs.Prelude.{not, if◌then◌else◌, nat_lt, slice_get}
-use Rattle.std.proofs.lemmas.List.{append_assoc}
-use Rattle.std.proofs.Math.Seq.{take-append-add}
-use Rattle.std.proofs.lemmas.Bool.{eqb-true, ltb-false, ltb-true}
-use Rattle.std.proofs.lemmas.Grind.{common_steps}
-use Rattle.write_history.specs.History.{Write, Image, History, point_in, up_to_set, after_set, dropped, written, reverted, reverted_in_part, cut}
-use Rattle.write_history.specs.Slots.{Placed, gone_up_to}
-use Rattle.set_agenda.specs.Course.{change_at}
-use Rattle.vss_model.specs.State.{history_in}
+use Rattle.vss_model.proofs.Terms.{append_assoc, take-append-add, eqb-true, ltb-false, ltb-true, common_steps, Write, Image, History, point_in, up_to_set}
+use Rattle.vss_model.proofs.Terms.{after_set, dropped, written, reverted, reverted_in_part, Placed, gone_up_to, change_at, history_in}
+use Rattle.write_history.specs.History.{cut}
 use Rattle.set_agenda.proofs.Closings.{unless}
 
 -- the volumes as they were at the cut of each set that was cut
@@ -61,11 +56,8 @@ shown-filter test k v ws (i ∷ images) h = shown_if (test i) k v ws i (filter t
 
 -- ## more writes
 
-begins-append : (first ws more : List Write) → Begins first ws → Begins first (ws ++ more)
-begins-append first ws more h = record { rest = h.rest ++ more; is = ap (λ x. x ++ more) h.is ∙ append_assoc first h.rest more }
-
 in-append : (o : Option (List History)) (v point : ℕ) (ws more : List Write) → ShownIn o v point ws → ShownIn o v point (ws ++ more)
-in-append o v point ws more h = grind (arith, begins-append)
+in-append o v point ws more h = grind (arith, common_steps, append_assoc)
 
 pub shown-writes : (k : Known) (v : ℕ) (ws more : List Write) (images : List Image) → Shown k v ws images → Shown k v (ws ++ more) images
 shown-writes k v ws more [] h = tt
@@ -74,17 +66,7 @@ shown-writes k v ws more (i ∷ images) h = (in-append (k i.set) v i.point ws mo
 -- ## back to a point
 
 begins-take : (first ws : List Write) (n : ℕ) → length first ≤ n → Begins first ws → Begins first (take n ws)
-begins-take first ws n l h = record {
-  rest = take (n - length first) h.rest;
-  is = ap (take n) h.is
-      ∙ ap (λ m. take m (first ++ h.rest)) (split (length first) n l)
-      ∙ take-append-add first h.rest (n - length first);
-} where
-  split : (a b : ℕ) → a ≤ b → b ≡ a + (b - a)
-  split a b l = omega arith
-
-in-take : (o : Option (List History)) (v point n : ℕ) (ws : List Write) → point ≤ n → ShownIn o v point ws → ShownIn o v point (take n ws)
-in-take o v point n ws l h = grind (arith, begins-take)
+begins-take first ws n l h = grind (arith, common_steps, take-append-add first h.rest (n - length first))
 
 -- an image that is kept by a revert has no greater point
 abbrev Within : ℕ → ℕ → List Image → Type 0
@@ -100,7 +82,7 @@ above_point i n p (j ∷ js) h e = above_point_if (j.set == n) i j n p js h.1 e 
 
 later_within : (i : Image) (n p : ℕ) (js : List Image) → i.set ≡ n → Above i js → Within n p js
 later_within i n p [] e h = tt
-later_within i n p (j ∷ js) e h = let ih = later_within i n p js e h.2 in grind (arith, common_steps)
+later_within i n p (j ∷ js) e h = grind (arith, common_steps, later_within i n p js e h.2)
 
 within_if : (b : Bool) (i : Image) (n p : ℕ) (images : List Image) → (i.set == n) ≡ b → (if b then Some i.point else point_in n images) ≡ Some p → Above i images → (point_in n images ≡ Some p → Within n p images) → Within n p (i ∷ images)
 within_if b i n p images e f h ih = grind (arith, later_within, eqb-true, above_point)
@@ -111,7 +93,7 @@ within k v ws n p (i ∷ images) h e = within_if (i.set == n) i n p images refl 
 
 back : (k : Known) (v : ℕ) (ws : List Write) (n p : ℕ) (images : List Image) → Shown k v ws images → Within n p images → Shown k v (take p ws) (up_to_set n images)
 back k v ws n p [] h l = tt
-back k v ws n p (i ∷ images) h l = let ih = back k v ws n p images h.2 l.1 in grind (arith, common_steps, shown_if, in-take, unless, above-filter)
+back k v ws n p (i ∷ images) h l = let ih = back k v ws n p images h.2 l.1 in grind (arith, common_steps, shown_if, begins-take, unless, above-filter)
 
 pub shown-reverted : (k : Known) (v n p : ℕ) (h : History) → point_in n h.images ≡ Some p → IsShown k v h → IsShown k v (reverted n p h)
 shown-reverted k v n p h e shown = back k v h.writes n p h.images shown (within k v h.writes n p h.images shown e)
@@ -147,12 +129,9 @@ shown-written w k v h shown = shown-writes k v h.writes (w ∷ []) h.images show
 
 -- ## the same that is known
 
-along_known : (o p : Option (List History)) (v point : ℕ) (ws : List Write) → o ≡ p → ShownIn o v point ws → ShownIn p v point ws
-along_known o p v point ws e h = subst (λ x. ShownIn x v point ws) e h
-
 shown_along : (k l : Known) (v : ℕ) (ws : List Write) (images : List Image) → ((n : ℕ) (hs : List History) → k n ≡ Some hs → l n ≡ Some hs) → Shown k v ws images → Shown l v ws images
 shown_along k l v ws [] same h = tt
-shown_along k l v ws (i ∷ images) same h = let ih = shown_along k l v ws images same h.2 in grind (arith, common_steps, along_known)
+shown_along k l v ws (i ∷ images) same h = let ih = shown_along k l v ws images same h.2 in grind (arith, common_steps)
 
 -- more may be known
 pub all_along : (k l : Known) → ((n : ℕ) (hs : List History) → k n ≡ Some hs → l n ≡ Some hs) → (v : ℕ) (hs : List History) → AllShown k v hs → AllShown l v hs
@@ -181,13 +160,13 @@ no_greater o v point ws g = grind (arith, common_steps)
 -- what is not known from n on was cut before n
 below : (k : Known) (v : ℕ) (ws : List Write) (n : ℕ) (images : List Image) → ((m : ℕ) → n ≤ m → k m ≡ None) → Shown k v ws images → Below images n (length ws)
 below k v ws n [] none h = tt
-below k v ws n (i ∷ images) none h = let ih = below k v ws n images none h.2 in grind (arith, common_steps, no_greater, ltb-true, ltb-false)
+below k v ws n (i ∷ images) none h = grind (arith, common_steps, no_greater, ltb-true, ltb-false, below k v ws n images none h.2)
 
 pub append_none : (ws : List Write) → ws ≡ ws ++ []
 append_none ws = grind (arith, common_steps)
 
 pub shown-cut : (k : Known) (v n : ℕ) (hs : List History) (h : History) → k n ≡ Some hs → writes_at hs v ≡ h.writes → Below h.images n (length h.writes) → IsShown k v h → IsShown k v (cut n h)
-shown-cut k v n hs h e f b shown = grind (arith, shown-append, along_known, append_none)
+shown-cut k v n hs h e f b shown = grind (arith, common_steps, shown-append, append_none)
 
 pub below-known : (k : Known) (v n : ℕ) (h : History) → ((m : ℕ) → n ≤ m → k m ≡ None) → IsShown k v h → Below h.images n (length h.writes)
 below-known k v n h none shown = below k v h.writes n h.images none shown
@@ -206,6 +185,4 @@ point_shown k v n p ws (i ∷ images) e h = point_if (i.set == n) k v n p ws i i
 pub shown_at : (k : Known) (base v u n p : ℕ) (hs : List History) → u ≡ base + v → AllShown k base hs → point_in n (history_in (slice_get hs v)).images ≡ Some p → ShownIn (k n) u p (history_in (slice_get hs v)).writes
 shown_at k base v u n p [] e h f = grind (arith, common_steps)
 shown_at k base zero u n p (x ∷ hs) e h f = grind (arith, common_steps, point_shown)
-shown_at k base (suc v) u n p (x ∷ hs) e h f = shown_at k (base + 1) v u n p hs (rw e (one_more base v)) h.1 f where
-  one_more : (a b : ℕ) → a + suc b ≡ (a + 1) + b
-  one_more a b = omega arith
+shown_at k base (suc v) u n p (x ∷ hs) e h f = grind (arith, common_steps, shown_at k (base + 1) v u n p hs)

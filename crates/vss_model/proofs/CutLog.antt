@@ -2,19 +2,8 @@
 -- So at the Cut step every volume is held and every participant is frozen.
 use Rattle.std.proofs.Common.{◌≡◌, ℕ, List, [], ◌∷◌, ◌++◌, Option, refl, Bool, true, false, map, sym, ◌∙◌, arith}
 use Rattle.std.specs.Prelude.{◌&&◌, ◌||◌, not}
-use Rattle.std.specs.List.{list_any}
-use Rattle.std.proofs.lemmas.List.Folds.{list_any-append}
-use Rattle.std.proofs.lemmas.Bool.{or_from, or_left}
-use Rattle.vss_names.specs.declared.order.Order.TheVariants.{Thaw}
-use Rattle.writer_state.specs.declared.said.Said.{Said}
-use Rattle.writer_state.specs.WriterState.{is_ok}
-use Rattle.set_agenda.specs.declared.group.Group.{Group}
-use Rattle.set_agenda.specs.declared.group.Group.TheVariants.{Orders, Cut, Release}
-use Rattle.set_agenda.specs.declared.kind.Kind.{Kind}
-use Rattle.set_agenda.specs.declared.place.Place.{Place}
-use Rattle.set_agenda.specs.Agenda.{Agenda, Entry, plain, places, is_freeze, has_said, left_from, groups_left, open_place, at_place, all_say}
-use Rattle.scenario.specs.Plan.{Plan}
-use Rattle.vss_model.specs.Acts.{Act, state}
+use Rattle.vss_model.proofs.Terms.{list_any, list_any-append, or_from, or_left, Thaw, Said, is_ok, Group, Orders, Cut, Release, Kind, Place, Agenda, Entry}
+use Rattle.vss_model.proofs.Terms.{plain, places, is_freeze, has_said, left_from, groups_left, open_place, at_place, all_say, Plan, Act, state}
 use Rattle.vss_model.proofs.Orderly.{true_not_false}
 use Rattle.vss_model.proofs.LogRule.{IsKeptInLog, Running, in_log}
 

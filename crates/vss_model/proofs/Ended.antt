@@ -1,17 +1,8 @@
 -- At the end of a legal and complete trail no session stands, so no set is in progress.
-use Rattle.std.proofs.Common.{◌≡◌, ℕ, zero, suc, ◌≤◌, List, [], ◌∷◌, Option, None, refl, true, ap, sym, ◌∙◌, length, drop, arith}
+use Rattle.std.proofs.Common.{◌≡◌, ℕ, zero, suc, ◌≤◌, List, [], ◌∷◌, Option, None, refl, true, ap, sym, ◌∙◌, length, arith}
 use Rattle.std.specs.Prelude.{All, slice_get}
-use Rattle.std.proofs.lemmas.Grind.{common_steps}
-use Rattle.write_history.specs.declared.move_item.Move.{Move}
-use Rattle.requestor.specs.Session.{Session}
-use Rattle.scenario.specs.Bounds.{IsPlan, IsLane, ends_sessions}
-use Rattle.scenario.specs.Plan.{Plan, LaneLine, LanePlan, lines_in, lines_of}
-use Rattle.vss_names.specs.declared.set_outcome.SetOutcome.{SetOutcome}
-use Rattle.vss_model.specs.State.{State, SetRow, in_progress}
-use Rattle.vss_model.specs.Acts.{state}
-use Rattle.vss_model.specs.Facts.{IsOfSession}
-use Rattle.vss_model.specs.GoesOn.{EndsSessions}
-use Rattle.vss_model.specs.Trail.{Run, run, begin, acts, cursor, is_legal, is_complete}
+use Rattle.vss_model.proofs.Terms.{common_steps, Move, Session, IsPlan, IsLane, ends_sessions, Plan, LanePlan, lines_in, lines_of, SetOutcome, State}
+use Rattle.vss_model.proofs.Terms.{SetRow, in_progress, state, IsOfSession, EndsSessions, Run, run, begin, acts, cursor, is_legal, is_complete}
 use Rattle.vss_model.proofs.Appending.{state-run}
 use Rattle.vss_model.proofs.GoesOn.{EndsLeft, legal_ends}
 use Rattle.vss_model.proofs.Headline.{used_up}
@@ -29,11 +20,8 @@ plan_ends_sessions s h i = lane_of s s.lanes h.lanes i
 
 -- ## no session at the end
 
-nothing_left : (ls : List LaneLine) (k : ℕ) → length ls ≤ k → drop k ls ≡ []
-nothing_left ls k h = grind (arith, common_steps)
-
 no_session : (s : Plan) (r : Run) (q : Option Session) → EndsLeft s r.moves q → ((i : ℕ) → length (lines_of s i) ≤ cursor r.moves i) → q ≡ None
-no_session s r q h e = grind (arith, nothing_left)
+no_session s r q h e = grind (arith, common_steps)
 
 no_set : (q : Option Session) (o : SetOutcome) (found : Option SetRow) → q ≡ None → IsOfSession q o found → found ≡ None
 no_set q o found e h = grind arith

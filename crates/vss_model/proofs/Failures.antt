@@ -1,16 +1,9 @@
 -- What a failed set leaves, and what holds while no set is in progress.
 use Rattle.std.proofs.Common.{◌≡◌, ℕ, ◌+◌, ◌==◌, ◌<◌, zero, suc, List, [], ◌∷◌, Some, None, refl, Bool, true, false, ◌∙◌, find, arith}
 use Rattle.std.specs.Prelude.{◌++◌, map, ◌&&◌, ◌||◌, not, if◌then◌else◌, slice_get}
-use Rattle.std.proofs.lemmas.List.Folds.{list_any-append}
-use Rattle.std.proofs.lemmas.Bool.{false_from_ne_true}
-use Rattle.std.proofs.lemmas.Grind.{common_steps}
-use Rattle.write_history.specs.History.{Write, Image, History, point_in}
-use Rattle.write_history.specs.Slots.{Copy, Placed, copy_of, copies_of, copies_from, copies}
-use Rattle.scenario.specs.Plan.{Plan}
-use Rattle.vss_model.specs.State.{State, SetRow, in_progress, row_of, history_in, history_of, is_held, is_frozen}
-use Rattle.vss_model.specs.Acts.{Act, state}
-use Rattle.vss_model.specs.Laws.{RunsSnapshot}
-use Rattle.vss_model.specs.Facts.{NumberedFrom, has_failed, is_live, AreLive, AllLive, holds_for}
+use Rattle.vss_model.proofs.Terms.{list_any-append, false_from_ne_true, common_steps, Write, Image, History, point_in, Copy, Placed, copy_of, copies_of}
+use Rattle.vss_model.proofs.Terms.{copies_from, copies, Plan, SetRow, in_progress, row_of, history_in, history_of, is_held, is_frozen, Act, state}
+use Rattle.vss_model.proofs.Terms.{NumberedFrom, has_failed, is_live, AreLive, AllLive, holds_for}
 use Rattle.vss_model.proofs.HeldOfSet.{held_means, frozen_means}
 use Rattle.vss_model.proofs.OrderlyActs.{orderly}
 
@@ -25,7 +18,7 @@ live_at rows (x ∷ hs) (suc v) h = live_at rows hs v h.1
 -- numbers below the first are of no row
 pub no_live_below : (k n : ℕ) (rows : List SetRow) → NumberedFrom k rows → n < k → is_live rows n ≡ false
 no_live_below k n [] h l = refl
-no_live_below k n (r ∷ rows) h l = let ih = no_live_below (k + 1) n rows h.1 (omega arith) in grind (arith, common_steps)
+no_live_below k n (r ∷ rows) h l = grind (arith, common_steps, no_live_below (k + 1) n rows h.1 (omega arith))
 
 failed_head : (b : Bool) (k n : ℕ) (r q : SetRow) (rows : List SetRow) → (q.number == n) ≡ b → q.number ≡ k → NumberedFrom (k + 1) rows
     → (if b then Some q else find (λ x. x.number == n) rows) ≡ Some r → has_failed r.result ≡ true
@@ -61,25 +54,18 @@ none_mapped n v ws i (b ∷ blocks) e = rw e (none_mapped n v ws i blocks e)
 none_in_either : (n : ℕ) (xs ys : List Copy) → holds_for n xs ≡ false → holds_for n ys ≡ false → holds_for n (xs ++ ys) ≡ false
 none_in_either n xs ys e f = list_any-append (λ (c : Copy). c.set == n) xs ys ∙ rw e f
 
-other_set : (rows : List SetRow) (n m : ℕ) → is_live rows n ≡ false → is_live rows m ≡ true → (m == n) ≡ false
-other_set rows n m f g = grind arith
-
 none_of_volume : (rows : List SetRow) (n v blocks : ℕ) (ws : List Write) (images : List Image) → is_live rows n ≡ false → AreLive rows images
     → holds_for n (copies_of v blocks ws images) ≡ false
 none_of_volume rows n v blocks ws [] f h = refl
 none_of_volume rows n v blocks ws (i ∷ newer) f h =
-    let ih = none_of_volume rows n v blocks ws newer f h.1 in grind (arith, common_steps, none_in_either, none_mapped, other_set)
-
-none_from_if : (b : Bool) (n : ℕ) (xs ys zs : List Copy) → holds_for n xs ≡ false → holds_for n ys ≡ false → holds_for n zs ≡ false
-    → holds_for n (if b then xs ++ ys else zs) ≡ false
-none_from_if b n xs ys zs e f g = grind (arith, none_in_either)
+    let ih = none_of_volume rows n v blocks ws newer f h.1 in grind (arith, common_steps, none_in_either, none_mapped)
 
 none_from : (rows : List SetRow) (n v : ℕ) (ps : List Placed) (hs : List History) → is_live rows n ≡ false → AllLive rows hs
     → holds_for n (copies_from v ps hs) ≡ false
 none_from rows n v [] hs f h = refl
 none_from rows n v (p ∷ ps) [] f h = refl
 none_from rows n v (p ∷ ps) (x ∷ hs) f h =
-    let ih = none_from rows n (v + 1) ps hs f h.1 in let ih1 = none_from rows n v ps hs f h.1 in grind (arith, common_steps, none_from_if, none_of_volume)
+    let ih = none_from rows n (v + 1) ps hs f h.1 in let ih1 = none_from rows n v ps hs f h.1 in grind (arith, common_steps, none_in_either, none_of_volume)
 
 pub failed_has_no_copy : (s : Plan) (acts : List Act) (n : ℕ) (r : SetRow) (group : List Placed) → row_of (state s acts) n ≡ Some r → has_failed r.result ≡ true
     → holds_for n (copies group (state s acts).volumes) ≡ false
@@ -90,11 +76,8 @@ failed_has_no_copy s acts n r group e f =
 
 -- ## while no set is in progress
 
-no_set : (st : State) → in_progress st ≡ None → RunsSnapshot st → ⊥
-no_set st e r = grind arith
-
 pub none_held : (s : Plan) (acts : List Act) (v : ℕ) → in_progress (state s acts) ≡ None → is_held (state s acts) v ≡ false
-none_held s acts v e = false_from_ne_true (is_held (state s acts) v) (λ h. no_set (state s acts) e (held_means s acts v h))
+none_held s acts v e = grind (arith, common_steps, false_from_ne_true, held_means)
 
 pub none_frozen : (s : Plan) (acts : List Act) (w : ℕ) → in_progress (state s acts) ≡ None → is_frozen (state s acts) w ≡ false
-none_frozen s acts w e = false_from_ne_true (is_frozen (state s acts) w) (λ h. no_set (state s acts) e (frozen_means s acts w h))
+none_frozen s acts w e = grind (arith, common_steps, false_from_ne_true, frozen_means)

@@ -1,28 +1,11 @@
 -- Nowhere are there more than 64 writers, or more than 64 volumes in the set in progress.
 use Rattle.std.proofs.Common.{◌≡◌, ℕ, suc, ◌+◌, ◌≤◌, List, [], ◌∷◌, ◌++◌, Option, Some, None, refl, Bool, true, false, ap, sym, subst, map, length, arith}
-use Rattle.std.specs.Prelude.{if◌then◌else◌, nat_le, find, option_map}
-use Rattle.std.proofs.lemmas.List.{length-map}
-use Rattle.std.proofs.lemmas.Grind.{common_steps}
-use Rattle.vss_names.specs.declared.context.Context.{Context}
-use Rattle.vss_names.specs.declared.order.Order.{Order}
-use Rattle.vss_names.specs.declared.set_outcome.SetOutcome.{SetOutcome}
-use Rattle.vss_names.specs.declared.set_outcome.SetOutcome.TheVariants.{Running}
-use Rattle.vss_names.specs.declared.vss_result.VssResult.{VssResult}
-use Rattle.writer_state.specs.declared.said.Said.{Said}
-use Rattle.writer_state.specs.declared.writer_row.WriterRow.{WriterRow}
-use Rattle.writer_state.specs.WriterRow.{row_aborted, row_gathered, row_ended}
-use Rattle.write_history.specs.declared.mark.Mark.{Mark}
-use Rattle.set_agenda.specs.Course.{Course, posted, failed as course_failed, told, worked, released, rows_where, members_from, is_member}
-use Rattle.scenario.specs.Bounds.{IsPlan}
-use Rattle.scenario.specs.Plan.{Plan}
-use Rattle.vss_model.specs.State.{State, SetRow, start, in_progress, is_running, row_changed}
-use Rattle.vss_model.specs.Ending.{row_settled}
-use Rattle.vss_model.specs.Sessions.{new_set, with_volume, add_refusal}
-use Rattle.vss_model.specs.Steps.{row_cut, later}
-use Rattle.vss_model.specs.Acts.{Act, state}
-use Rattle.set_agenda.proofs.CourseRule.{IsKeptInCourse}
-use Rattle.vss_model.specs.declared.event.Event.{Event}
-use Rattle.vss_model.specs.Changes.{Change, apply}
+use Rattle.std.specs.Prelude.{if◌then◌else◌, find, option_map}
+use Rattle.vss_model.proofs.Terms.{length-map, common_steps, Context, Order, SetOutcome, VssResult, Said, WriterRow, row_aborted, row_gathered}
+use Rattle.vss_model.proofs.Terms.{row_ended, Mark, Course, posted, failed as course_failed, told, worked, released, rows_where, members_from, is_member}
+use Rattle.vss_model.proofs.Terms.{IsPlan, Plan, State, SetRow, start, in_progress, is_running, row_changed, row_settled, new_set, with_volume, add_refusal}
+use Rattle.vss_model.proofs.Terms.{row_cut, Act, state, IsKeptInCourse, Event, Change, apply}
+use Rattle.vss_model.proofs.StateForm.{later}
 use Rattle.vss_model.proofs.Changes.{Comes, by_all_changes}
 use Rattle.vss_model.proofs.CourseFacts.{IsKeptByCalls, of_course}
 use Rattle.vss_model.proofs.Orderly.{find-map, find-settled_over}
@@ -73,12 +56,6 @@ FewVolumes (Some r) = length r.volumes ≤ 64
 abbrev running_in : List SetRow → Option SetRow
 running_in rows = find (λ r. is_running r.result) rows
 
-same_settled : (r : SetRow) → is_running (row_settled Running r).result ≡ is_running r.result
-same_settled r = grind arith
-
-volumes_settled : (r : SetRow) → (row_settled Running r).volumes ≡ r.volumes
-volumes_settled r = grind arith
-
 few_mapped : (g : SetRow → SetRow) → ((r : SetRow) → (g r).volumes ≡ r.volumes) → (o : Option SetRow) → FewVolumes o → FewVolumes (option_map g o)
 few_mapped g same o h = grind arith
 
@@ -86,7 +63,7 @@ few_same : (o p : Option SetRow) → p ≡ o → FewVolumes o → FewVolumes p
 few_same o p e h = subst FewVolumes (sym e) h
 
 few_row_settled : (o : SetOutcome) (rows : List SetRow) → FewVolumes (running_in rows) → FewVolumes (running_in (map (row_settled o) rows))
-few_row_settled o rows h = grind (arith, few_same, find-map, same_settled, few_mapped, volumes_settled, find-settled_over)
+few_row_settled o rows h = grind (arith, common_steps, few_same, find-map, few_mapped, find-settled_over)
 
 -- a change of the row of one set that keeps its result
 same_changed : (n : ℕ) (f : SetRow → SetRow) → ((r : SetRow) → (f r).result ≡ r.result) → (r : SetRow) → is_running (row_changed n f r).result ≡ is_running r.result
@@ -102,14 +79,8 @@ few_started (r ∷ rows) n c h = own (is_running r.result) (few_started rows n c
   own true later g = g
   own false later g = later g
 
-length-more : (vs : List ℕ) (v : ℕ) → length (vs ++ v ∷ []) ≡ suc (length vs)
-length-more vs v = grind (arith, common_steps)
-
-few_if_added : (a b d : Bool) (x y z : VssResult) (n : ℕ) → nat_le 64 n ≡ b → (if a then Some x else if b then Some y else if d then Some z else None) ≡ None → suc n ≤ 64
-few_if_added a b d x y z n e f = grind arith
-
 few_added : (v : ℕ) (r : SetRow) (st : State) → in_progress st ≡ Some r → add_refusal v r st ≡ None → FewVolumes (running_in (map (row_changed r.number (with_volume v)) st.sets))
-few_added v r st e f = grind (arith, few_same, find-map, same_changed, few_if_added, length-more)
+few_added v r st e f = grind (arith, common_steps, few_same, find-map, same_changed)
 
 -- ## both, in every state
 
@@ -127,11 +98,8 @@ few_calls = record {
   releases = few_released;
 }
 
-few_rows : (g : SetRow → SetRow) → ((r : SetRow) → is_running (g r).result ≡ is_running r.result) → ((r : SetRow) → (g r).volumes ≡ r.volumes) → (rows : List SetRow) → FewVolumes (running_in rows) → FewVolumes (running_in (map g rows))
-few_rows g same volumes rows h = few_same _ _ (find-map g same rows) (few_mapped g volumes (running_in rows) h)
-
 few_change : (s : Plan) (e : Event) (m : Mark) (st : State) (c : Change) (x : State) → Comes s e m st x c → FewVolumes (in_progress x) → FewVolumes (in_progress (apply x c))
-few_change s e m st c x i h = grind (arith, common_steps, few_started, few_added, few_rows, same_changed, volumes_cut, few_row_settled)
+few_change s e m st c x i h = grind (arith, common_steps, few_started, few_added, few_same, find-map, few_mapped, same_changed, volumes_cut, few_row_settled)
 
 few_start : (s : Plan) → IsPlan s → FewWriters (start s).course
 few_start s h = grind (arith, length-map)

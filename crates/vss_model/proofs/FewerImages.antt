@@ -1,20 +1,10 @@
 -- Only the Cut step gives an image: after any other act each volume has no image of another set, and no more of them.
-use Rattle.std.proofs.Common.{◌≡◌, ◌∙◌, List, [], ◌∷◌, Option, Some, None, refl, Bool, true, false, map, length, fold, arith}
+use Rattle.std.proofs.Common.{◌≡◌, ◌∙◌, List, [], ◌∷◌, Option, Some, None, refl, Bool, true, false, length, fold, arith}
 use Rattle.std.specs.Prelude.{◌&&◌}
-use Rattle.std.proofs.lemmas.Grind.{common_steps}
-use Rattle.write_history.specs.declared.mark.Mark.{Mark}
-use Rattle.write_history.specs.History.{History, fresh, dropped, written, reverted, reverted_in_part}
-use Rattle.set_agenda.specs.Agenda.{open_group}
-use Rattle.set_agenda.specs.Course.{Course, stepped as course_stepped}
-use Rattle.scenario.specs.Plan.{Plan}
-use Rattle.scenario.specs.declared.volume_row.VolumeRow.{VolumeRow}
-use Rattle.vss_model.specs.declared.event.Event.{Event}
-use Rattle.vss_model.specs.State.{State, SetRow, start, in_progress, left_now}
-use Rattle.vss_model.specs.Ending.{Ending, SetFails, ending, images_dropped, concluded, followed}
-use Rattle.vss_model.specs.Acts.{Act, after, state}
-use Rattle.vss_model.specs.Cut.{is_provider, is_cut_group}
-use Rattle.vss_model.specs.Changes.{Change, IsCutAt, Writes, Cuts, Reverts, RevertsPart, DropsSet, Drops, Evicts, apply}
-use Rattle.vss_model.specs.Steps.{cut_set}
+use Rattle.vss_model.proofs.Terms.{nat_tests, common_steps, Mark, History, dropped, written, reverted, reverted_in_part, open_group, Course}
+use Rattle.vss_model.proofs.Terms.{stepped as course_stepped, Plan, Event, State, SetRow, in_progress, left_now, Ending, SetFails, ending, Act, after, state}
+use Rattle.vss_model.proofs.Terms.{is_provider, is_cut_group, Change, IsCutAt, Writes, Cuts, Reverts, RevertsPart, DropsSet, Drops, Evicts, apply}
+use Rattle.vss_model.proofs.StateForm.{images_dropped, concluded, followed, cut_set}
 use Rattle.vss_model.proofs.Changes.{Comes, is_end, by_changes}
 use Rattle.vss_model.proofs.CutStep.{by_cut}
 use Rattle.vss_model.proofs.Volumes.{FewerIn, fewer_in_same, fewer_in_over, fewer_in_map, fewer_in_change, fewer_in_gone, fewer_dropped, fewer_written, fewer_reverted, fewer_in_part, as_many_cut}
@@ -34,12 +24,9 @@ fewer_apply (Drops n v) x e = fewer_in_change (dropped n) (fewer_dropped n) v x.
 fewer_apply (Evicts n group) x e = fewer_in_gone n group x.volumes
 fewer_apply _ x e = fewer_in_same x.volumes
 
-neither : (a b : Bool) → a ≡ true → b ≡ true → (a && b) ≡ false → true ≡ false
-neither a b g h f = grind arith
-
 -- an act that is no Cut step cuts nothing
 pub no_cut : (s : Plan) (e : Event) (m : Mark) (st x : State) (c : Change) → (is_provider e && is_cut_group (open_group (left_now st))) ≡ false → Comes s e m st x c → is_cut c ≡ false
-no_cut s e m st x c f i = grind (arith, common_steps, neither)
+no_cut s e m st x c f i = grind (arith, common_steps)
 
 pub fewer_after : (s : Plan) (st : State) (act : Act) → (is_provider act.event && is_cut_group (open_group (left_now st))) ≡ false → FewerIn st.volumes (after s st act).volumes
 fewer_after s st act f =
@@ -86,9 +73,6 @@ as_many_from : (s : Plan) (st : State) (acts : List Act) → length (fold (after
 as_many_from s st [] = refl
 as_many_from s st (act ∷ acts) = as_many_from s (after s st act) acts ∙ by_changes (λ x. length x.volumes ≡ length st.volumes) s st act (λ c x i h. as_many_apply c x ∙ h) refl
 
-as_many_rows : (rows : List VolumeRow) → length (map (λ _. fresh) rows) ≡ length rows
-as_many_rows rows = grind (arith, common_steps)
-
 -- there are always as many volumes as in the scenario
 pub as_many_volumes : (s : Plan) (acts : List Act) → length (state s acts).volumes ≡ length s.volumes
-as_many_volumes s acts = as_many_from s (start s) acts ∙ as_many_rows s.volumes
+as_many_volumes s acts = grind (arith, common_steps, nat_tests, as_many_from)

@@ -1,36 +1,18 @@
 -- A device that fails to flush fails the set in progress in that act.
 use Rattle.std.proofs.Common.{◌≡◌, ℕ, ◌==◌, List, find, Option, Some, refl, Bool, true, false, map, ap, ◌∙◌, subst, arith}
 use Rattle.std.specs.Prelude.{option_map}
-use Rattle.vss_names.specs.declared.set_outcome.SetOutcome.{SetOutcome}
-use Rattle.vss_names.specs.declared.set_outcome.SetOutcome.TheVariants.{Running, Failed}
-use Rattle.vss_names.specs.declared.vss_result.VssResult.{VssResult}
-use Rattle.vss_names.specs.declared.vss_result.VssResult.TheVariants.{UnexpectedProviderError}
-use Rattle.write_history.specs.declared.mark.Mark.{Mark}
-use Rattle.write_history.specs.declared.mark.Mark.TheVariants.{Fault}
-use Rattle.set_agenda.specs.declared.group.Group.{Group}
-use Rattle.set_agenda.specs.declared.group.Group.TheVariants.{Flush}
-use Rattle.set_agenda.specs.Agenda.{Agenda, Open, open_group, is_working}
-use Rattle.set_agenda.specs.Course.{Course, posted, failed as course_failed, stepped as course_stepped}
-use Rattle.scenario.specs.Plan.{Plan}
-use Rattle.vss_model.specs.declared.event.Event.TheVariants.{Provider}
-use Rattle.vss_model.specs.State.{State, SetRow, is_running, in_progress, row_of, left_now}
-use Rattle.vss_model.specs.Ending.{ending, row_settled, concluded, followed, runs}
-use Rattle.vss_model.specs.Steps.{is_flush, is_failed_step, stepped_as, stepped}
-use Rattle.vss_model.specs.Acts.{Act, after, state}
-use Rattle.vss_model.specs.Cut.{is_provider}
-use Rattle.vss_model.specs.Facts.{IsOfSession, has_failed}
-use Rattle.vss_model.specs.Headline.{IsFailed}
-use Rattle.requestor.specs.Session.{Session}
+use Rattle.vss_model.proofs.Terms.{nat_tests, common_steps, SetOutcome, Running, Failed, VssResult, UnexpectedProviderError, Mark, Fault, Flush, Open}
+use Rattle.vss_model.proofs.Terms.{open_group, is_working, Course, posted, failed as course_failed, stepped as course_stepped, Plan, Provider, State, SetRow}
+use Rattle.vss_model.proofs.Terms.{is_running, in_progress, row_of, left_now, row_settled, runs, Act, after, state, is_provider, IsOfSession, has_failed}
+use Rattle.vss_model.proofs.Terms.{IsFailed, Session}
+use Rattle.vss_model.proofs.StateForm.{followed, stepped}
 use Rattle.vss_model.proofs.CutStep.{after_provider}
 use Rattle.vss_model.proofs.OrderlyActs.{orderly}
 use Rattle.vss_model.proofs.Rows.{running_found, row_running, row_settles, result-settled}
 
-step_fails : (g : Option Group) (mark : Mark) (st : State) → g ≡ Some Flush → mark ≡ Fault → stepped_as (is_failed_step (is_flush g) mark) g st ≡ followed (runs st) (course_stepped false st.clock st.course) st
-step_fails g mark st e f = grind arith
-
 stepped_fails : (mark : Mark) (st : State) → open_group (left_now st) ≡ Some Flush → mark ≡ Fault → stepped mark st ≡ followed (runs st) (course_stepped false st.clock st.course) st
 unfolding stepped
-stepped_fails mark st e f = step_fails (open_group (left_now st)) mark st e f
+stepped_fails mark st e f = grind (arith, common_steps, nat_tests)
 
 working_at_flush : (os : List Open) → open_group os ≡ Some Flush → is_working os ≡ true
 working_at_flush os e = grind arith
@@ -39,12 +21,9 @@ outcome_stepped : (now : ℕ) (c : Course) → (course_stepped false now c).outc
 unfolding posted course_failed
 outcome_stepped now c = refl
 
-sets_fail : (o p : SetOutcome) (ran : Bool) (a : Option Agenda) (st : State) (why : VssResult) → o ≡ Running → p ≡ Failed why → (concluded (ending o p ran a) st).sets ≡ map (row_settled st.course.outcome) st.sets
-sets_fail o p ran a st why e f = ap (λ x. (concluded (ending x p ran a) st).sets) e ∙ ap (λ x. (concluded (ending Running x ran a) st).sets) f
-
 sets_followed : (ran : Bool) (c : Course) (st : State) (why : VssResult) → st.course.outcome ≡ Running → c.outcome ≡ Failed why → (followed ran c st).sets ≡ map (row_settled c.outcome) st.sets
 unfolding followed
-sets_followed ran c st why e f = sets_fail st.course.outcome c.outcome ran c.agenda (record st { course = c }) why e f
+sets_followed ran c st why e f = grind (arith, common_steps, nat_tests)
 
 pub outcome_in : (q : Option Session) (o : SetOutcome) (r : SetRow) → IsOfSession q o (Some r) → o ≡ Running
 outcome_in q o r h = grind arith

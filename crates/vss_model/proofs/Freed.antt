@@ -1,18 +1,10 @@
 -- Right after an act in which the set in progress fails no agenda runs, so no volume is held and no writer stands frozen.
 use Rattle.std.proofs.Common.{◌≡◌, ℕ, ◌+◌, List, [], ◌∷◌, ◌++◌, ◌⊎◌, Option, Some, None, refl, true, false, map, sym, ap, ◌∙◌, subst, inl, inr, arith}
-use Rattle.vss_names.specs.declared.set_outcome.SetOutcome.{SetOutcome}
-use Rattle.vss_model.specs.declared.event.Event.{Event}
-use Rattle.write_history.specs.declared.mark.Mark.{Mark}
-use Rattle.set_agenda.specs.Agenda.{Agenda, left, is_working, is_held as holds, is_frozen as freezes}
-use Rattle.set_agenda.specs.Course.{failed as course_failed, released}
-use Rattle.scenario.specs.Plan.{Plan}
-use Rattle.vss_model.specs.State.{State, SetRow, in_progress, row_of, is_held, is_frozen}
-use Rattle.vss_model.specs.Sessions.{with_volume}
-use Rattle.vss_model.specs.Steps.{with_cut}
-use Rattle.vss_model.specs.Acts.{Act, after, state}
-use Rattle.vss_model.specs.Facts.{NumberedFrom, has_failed, is_live}
+use Rattle.vss_model.proofs.Terms.{SetOutcome, Event, Mark, Agenda, left, is_working, failed as course_failed, released, Plan, State, SetRow, in_progress}
+use Rattle.vss_model.proofs.Terms.{row_of, is_held, is_frozen, with_volume, with_cut, Act, after, state, NumberedFrom, has_failed, is_live, Change, CourseIs}
+use Rattle.vss_model.proofs.Terms.{StartsSet, AddsVolume, IsCutAt, Settles, apply}
+use Rattle.set_agenda.specs.Agenda.{is_held as holds, is_frozen as freezes}
 use Rattle.vss_model.proofs.Appending.{state-append}
-use Rattle.vss_model.specs.Changes.{Change, CourseIs, StartsSet, AddsVolume, IsCutAt, Settles, apply}
 use Rattle.vss_model.proofs.Changes.{CourseCall, Answers, Steps, Times, Gathers, Prepares, Snapshots, Completes, Disables, called, IsDue, Stands, Comes}
 use Rattle.vss_model.proofs.Changes.{by_changes}
 use Rattle.vss_model.proofs.Orderly.{IsSameRow, live-map, live_append, live_found, true_not_false}

@@ -1,52 +1,22 @@
 -- Before its writers are gathered a session names nothing and nobody takes part; from then on what it names are selectable
 -- components of writers that it knows, and only they take part.
 use Rattle.std.proofs.Common.{◌≡◌, ℕ, ◌+◌, ◌==◌, ◌<◌, zero, suc, List, [], ◌∷◌, ◌++◌, ◌⊎◌, Option, Some, None, refl, Bool, true, false, map, filter, ap, sym, ◌∙◌, subst, fold, inl, inr, arith}
-use Rattle.std.specs.Prelude.{option_map, is_some, ◌&&◌, ◌||◌, not, if◌then◌else◌, slice_get, length}
-use Rattle.std.specs.List.{list_any}
-use Rattle.vss_names.specs.declared.vss_result.VssResult.{VssResult}
-use Rattle.vss_names.specs.declared.vss_result.VssResult.TheVariants.{AsyncCancelled}
-use Rattle.writer_state.specs.declared.said.Said.{Said}
-use Rattle.writer_state.specs.declared.writer_row.WriterRow.{WriterRow}
-use Rattle.writer_state.specs.WriterRow.{row_gathered}
-use Rattle.write_history.specs.declared.mark.Mark.{Mark}
-use Rattle.write_history.specs.History.{Write, dropped}
-use Rattle.writer_meta.specs.Metadata.{Meta}
-use Rattle.component_doc.specs.Selection.{Pair, naming, Names, is_taker, takers, known_from as known_of}
-use Rattle.component_doc.specs.Over.{meta_at, is_selectable_of, names_selectable}
-use Rattle.std.specs.List.{list_all}
-use Rattle.std.proofs.lemmas.Bool.{and_parts, eqb-true, or_from, or_right}
-use Rattle.std.proofs.lemmas.Grind.{common_steps}
-use Rattle.set_agenda.specs.declared.group.Group.{Group}
-use Rattle.set_agenda.specs.declared.kind.Kind.{Kind}
-use Rattle.set_agenda.specs.declared.kind.Kind.TheVariants.{Gather, Prepare, Snapshot, Complete}
-use Rattle.set_agenda.specs.declared.member.Member.{Member}
-use Rattle.set_agenda.specs.Agenda.{Agenda, is_among, open_group}
-use Rattle.set_agenda.specs.Course.{Course, change_at, posted, settled, begun, failed as course_failed, member_if, members_from, is_member, has_row_failed}
-use Rattle.set_agenda.specs.Course.{answered as course_answered, stepped as course_stepped, timed as course_timed, released}
-use Rattle.requestor.specs.declared.mode.Mode.{Mode}
-use Rattle.requestor.specs.declared.mode.Mode.TheVariants.{Components, All}
-use Rattle.requestor.specs.declared.stage.Stage.{Stage}
-use Rattle.requestor.specs.declared.stage.Stage.TheVariants.{Opened, Gathered, Started}
+use Rattle.std.specs.Prelude.{is_some, ◌&&◌, ◌||◌, not, if◌then◌else◌, slice_get, length}
+use Rattle.vss_model.proofs.Terms.{nat_tests, list_any, VssResult, AsyncCancelled, Said, WriterRow, row_gathered, Mark, Write, dropped, Meta, Pair, is_taker}
+use Rattle.vss_model.proofs.Terms.{takers, meta_at, is_selectable_of, names_selectable, list_all, and_parts, eqb-true, or_from, or_right, common_steps, Group}
+use Rattle.vss_model.proofs.Terms.{Kind, Gather, Prepare, Snapshot, Complete, Member, Agenda, is_among, open_group, Course, change_at, posted, settled, begun}
+use Rattle.vss_model.proofs.Terms.{failed as course_failed, member_if, members_from, is_member, has_row_failed, answered as course_answered}
+use Rattle.vss_model.proofs.Terms.{stepped as course_stepped, timed as course_timed, released, Mode, Components, All, Stage, Opened, Gathered, Started, Session}
+use Rattle.vss_model.proofs.Terms.{has_writers, is_stage, Plan, WriterPlan, said_of, State, SetRow, Kept, start, in_progress, left_now, Ending, ending, runs}
+use Rattle.vss_model.proofs.Terms.{has_failed_identify, has_no_volume, with_volume, selected_in, is_known, known_from, known_metas, is_flush, is_failed_step}
+use Rattle.vss_model.proofs.Terms.{idle_now, Act, after, state, LetsGo, IsAgendaOf, Event, Change, apply}
+use Rattle.component_doc.specs.Selection.{known_from as known_of}
 use Rattle.requestor.specs.declared.session_call.SessionCall.TheVariants as call
-use Rattle.requestor.specs.Session.{Session, has_writers, agenda_ended, set_failed}
-use Rattle.requestor.specs.Check.{is_stage}
-use Rattle.scenario.specs.Plan.{Plan, WriterPlan}
-use Rattle.writer_calls.specs.Script.{said_of}
-use Rattle.vss_model.specs.State.{State, SetRow, Kept, start, in_progress, left_now}
-use Rattle.vss_model.specs.Ending.{Ending, ending, concluded, followed, runs, failed_in, failed}
-use Rattle.vss_model.specs.Images.{with_room_if, put, write, reverted_as}
-use Rattle.vss_model.specs.Sessions.{has_failed_identify, has_no_volume, start_set, change_set, with_volume, selected_in, is_known, meta_if, known_from}
-use Rattle.vss_model.specs.Sessions.{known_metas, closed}
-use Rattle.vss_model.specs.Steps.{answered, step_made, is_flush, is_failed_step, stepped_as, stepped, ticked, later}
-use Rattle.vss_model.specs.Acts.{idle_now, Act, after, state}
-use Rattle.vss_model.specs.Laws.{LetsGo}
-use Rattle.vss_model.specs.Facts.{IsAgendaOf}
-use Rattle.vss_model.specs.declared.event.Event.{Event}
-use Rattle.vss_model.specs.Changes.{Change, SessionIs, Names as NamesPairs, CourseIs, apply}
+use Rattle.vss_model.proofs.StateForm.{concluded, followed, failed_in, failed, put, write, reverted_as, start_set, change_set, closed, answered, step_made, stepped_as, stepped, ticked, later}
 use Rattle.vss_model.proofs.Changes.{CourseCall, Answers, Steps, Times, Gathers, Prepares, Snapshots, Completes, Disables, Fails, Releases, called, IsDue}
-use Rattle.vss_model.proofs.Changes.{Stands, SessionStep, Opens, Starts, EndsAgenda, FailsSet, Closes, session_after, IsStepDue, Comes, by_all_changes}
+use Rattle.vss_model.proofs.Changes.{Stands, SessionStep, session_after, IsStepDue, Comes, by_all_changes, after_covered}
 use Rattle.vss_model.proofs.OrderlyActs.{orderly}
-use Rattle.vss_model.proofs.ByEvent.{Covers, Next, after_covered, by_if}
+use Rattle.vss_model.proofs.ByEvent.{Covers, Next, by_if}
 use Rattle.vss_model.proofs.Rows.{none_runs}
 use Rattle.vss_model.proofs.Orderly.{true_not_false}
 use Rattle.vss_model.proofs.HeldOfSet.{Follows, goes_answered, goes_stepped, goes_timed}
@@ -91,12 +61,6 @@ gathered_course s x d k a h = record {
   late = h.late;
 }
 
-bare_follows : (a : Option Agenda) (c d : Course) → Follows a c.members c.outcome d.agenda d.members d.outcome → BareAgenda a → BareAgenda d.agenda
-bare_follows a c d f h = grind arith
-
-asks_follows : (a b : Option Agenda) (c d : Course) → Follows a c.members c.outcome b d.members d.outcome → AsFit c.rows d.rows → AsksFitIn a c.rows → AsksFitIn b d.rows
-asks_follows a b c d f fit h = grind arith
-
 -- ## an agenda begins
 
 begun_members : (k : Kind) (ms : List Member) (vs : List ℕ) (now : ℕ) (c : Course) → Keeps c (begun k ms vs now c)
@@ -113,22 +77,16 @@ fit_begun_agenda k ms vs now c e h = grind arith
 
 -- ## who takes part is known
 
-pub known_if : (b : Bool) (m : Meta) → is_some (meta_if b m) ≡ true → b ≡ true
-known_if b m e = grind arith
-
 pub known_at : (s : Plan) (st : State) (k : ℕ) (ps : List WriterPlan) (w : ℕ) → is_some (meta_at (slice_get (known_from s st k ps) w)) ≡ true → is_known s st (k + w) ≡ true
 known_at s st k [] zero e = absurd cc
 known_at s st k [] (suc w) e = absurd cc
-known_at s st k (p ∷ ps) zero e = grind (arith, common_steps, known_if)
+known_at s st k (p ∷ ps) zero e = grind (arith, common_steps)
 known_at s st k (p ∷ ps) (suc w) e = ap (is_known s st) (shift k w) ∙ known_at s st (k + 1) ps w e where
   shift : (a b : ℕ) → a + suc b ≡ (a + 1) + b
   shift a b = omega arith
 
-fit_if_known : (a b : Bool) → (not a && not b) ≡ true → b ≡ false
-fit_if_known a b e = grind arith
-
 fit_of : (s : Plan) (st : State) (w : ℕ) → is_some (meta_at (slice_get (known_metas s st) w)) ≡ true → is_unfit st.course.rows w ≡ false
-fit_of s st w e = grind (arith, fit_if_known, known_at)
+fit_of s st w e = grind (arith, common_steps, known_at)
 
 pub selectable_known : (i : ℕ) (o : Option Meta) → is_selectable_of i o ≡ true → is_some o ≡ true
 selectable_known i o e = grind arith
@@ -207,12 +165,9 @@ member_passes test k (r ∷ rows) w e = by_test (test k) refl e (member_passes t
 abbrev participants : Plan → Mode → State → List Member
 participants s mode st = members_from (λ w. is_among w (takers (length s.writers) (selected_in mode s st))) 0 st.course.rows
 
-participants_fit : (s : Plan) (mode : Mode) (st : State) (w : ℕ) → AreOver (known_metas s st) st.explicit → is_member (participants s mode st) w ≡ true → is_unfit st.course.rows w ≡ false
-participants_fit s mode st w over e = grind (arith, taker_known, filter_passes, member_passes)
-
 gathered_prepared : (s : Plan) (mode : Mode) (now : ℕ) (st : State) → AreOver (known_metas s st) st.explicit → LateIn st.session
     → IsGathered s (record st { course = begun Prepare (participants s mode st) [] now (record st.course { members = participants s mode st }) })
-gathered_prepared s mode now st over late = grind (arith, begun_members, known_same, participants_fit, fit_begun_agenda)
+gathered_prepared s mode now st over late = grind (arith, common_steps, begun_members, known_same, taker_known, filter_passes, member_passes, fit_begun_agenda)
 
 -- ## what changes neither names nor course
 
@@ -263,20 +218,7 @@ nobody ms w e f = grind arith
 over_nothing : (ms : List (Option Meta)) (ps : List Pair) → ps ≡ [] → AreOver ms ps
 over_nothing ms ps e = subst (AreOver ms) (sym e) refl
 
-on_names : (s : Plan) (w : ℕ) (name : List ℕ) (q : Session) (explicit : List Pair) (st : State) → LetsGo call.Component q st → naming (known_metas s st) w name st.explicit ≡ Names explicit → NamesKnown s st → NamesKnown s (record st { explicit = explicit })
-on_names s w name q explicit st g e x8 = grind (arith, known_same, named_over, over_nothing, nobody, none_runs, names_late)
-
 -- ## each change
-
-late_map : (f : Session → Session) (q : Option Session) → ((p : Session) → is_late p.stage ≡ true → is_late (f p).stage ≡ true) → LateIn q
-    → LateIn (option_map f q)
-late_map f q keeps h = grind arith
-
-late_ended : (p : Session) → is_late p.stage ≡ true → is_late (agenda_ended p).stage ≡ true
-late_ended p e = grind arith
-
-no_late : {X : Type 0} (q : Option Session) → q ≡ None → LateIn q → X
-no_late q e h = absurd (subst LateIn e h)
 
 module _ (s : Plan) (st : State) where
   abbrev With : State → Course → Type 0
@@ -284,11 +226,11 @@ module _ (s : Plan) (st : State) where
 
   goes_bare : (x : State) (d : Course) → d.members ≡ x.course.members → Follows x.course.agenda x.course.members x.course.outcome d.agenda d.members d.outcome
       → IsBare x → With x d
-  goes_bare x d e f h = inl (record { explicit = h.explicit; members = e ∙ h.members; agenda = bare_follows x.course.agenda x.course d f h.agenda })
+  goes_bare x d e f h = grind (arith, common_steps, nat_tests)
 
   goes_gathered : (x : State) (d : Course) → Keeps x.course d → Follows x.course.agenda x.course.members x.course.outcome d.agenda d.members d.outcome
       → IsGathered s x → With x d
-  goes_gathered x d k f h = inr (gathered_course s x d k (asks_follows x.course.agenda d.agenda x.course d f k.fit h.agenda) h)
+  goes_gathered x d k f h = grind (arith, common_steps, nat_tests, gathered_course)
 
   on_prepare : (q : Session) (x : State) → LetsGo call.Prepare q st → NamesKnown s st → With st (called s st (Prepares q) st.course)
   on_prepare q x g h = inr
@@ -348,12 +290,7 @@ module _ (s : Plan) (st : State) where
 
   on_step : (e : Event) (x : State) (step : SessionStep) → IsStepDue e st x step → NamesKnown s x
       → NamesKnown s (record x { session = session_after st step x.session })
-  on_step e x Closes i h = inl (record { explicit = i.0; members = i.1; agenda = subst BareAgenda (sym i.2) tt })
-  on_step e x step i (inl h) = inl (bare_same x _ refl refl h)
-  on_step e x (Opens lane c all) i (inr h) = no_late x.session (ap (λ (y : State). y.session) i.1.2 ∙ i.1.1) h.late
-  on_step e x (Starts own) i (inr h) = inr (gathered_same s x _ refl refl refl h)
-  on_step e x EndsAgenda i (inr h) = inr (gathered_same s x _ refl refl (late_map agenda_ended x.session late_ended h.late) h)
-  on_step e x (FailsSet why) i (inr h) = inr (gathered_same s x _ refl refl (late_map (set_failed why) x.session (λ p f. refl) h.late) h)
+  on_step e x step i h = grind (arith, common_steps, nat_tests, bare_same, gathered_same)
 
   none_named : (x : State) (pairs : List Pair) → pairs ≡ [] → NamesKnown s x → NamesKnown s (record x { explicit = pairs })
   none_named x pairs e (inl h) = inl (record { explicit = e; members = h.members; agenda = h.agenda })
@@ -361,30 +298,19 @@ module _ (s : Plan) (st : State) where
       (record { over = over_nothing (known_metas s (record x { explicit = pairs })) pairs e; members = h.members; agenda = h.agenda; late = h.late })
 
   names_apply : (e : Event) (m : Mark) (c : Change) (x : State) → Comes s e m st x c → NamesKnown s x → NamesKnown s (apply x c)
-  names_apply e m (CourseIs c) x i h = subst (With x) (sym i.is) (on_called x i.call i.due i.stands h)
-  names_apply e m (SessionIs q) x i h = subst (λ p. NamesKnown s (record x { session = p })) (sym i.is) (on_step e x i.step i.due h)
-  names_apply e m (NamesPairs pairs) x (inl i) h = none_named x pairs i h
-  names_apply e m (NamesPairs pairs) x (inr i) h =
-      subst (λ (y : State). NamesKnown s (record y { explicit = pairs })) (sym i.first)
-      (on_names s i.writer i.name i.session pairs st i.goes i.named (subst (NamesKnown s) i.first h))
-  names_apply e m c x i h = same s x (apply x c) refl refl (λ l. l) h
+  names_apply e m c x i h =
+      grind (arith, common_steps, nat_tests, on_called, on_step, none_named, same, known_same, named_over, over_nothing, nobody, none_runs, names_late)
 
 names_from : (s : Plan) (st : State) (acts : List Act) → NamesKnown s st → NamesKnown s (fold (after s) st acts)
 names_from s st acts h = by_all_changes (NamesKnown s) s (λ e m old. names_apply s old e m) st acts h
 
-names_over : (s : Plan) (st : State) → NamesKnown s st → AreOver (known_metas s st) st.explicit
-names_over s st x2 = grind arith
-
 -- at every list of acts
 pub named_known_components : (s : Plan) (acts : List Act) → AreOver (known_metas s (state s acts)) (state s acts).explicit
-named_known_components s acts = names_over s (state s acts) (names_from s (start s) acts (inl (record { explicit = refl; members = refl; agenda = tt })))
-
-asked_are_fit : (s : Plan) (st : State) (w : ℕ) → NamesKnown s st → is_member st.course.members w ≡ true → is_unfit st.course.rows w ≡ false
-asked_are_fit s st w x3 e = grind arith
+named_known_components s acts = grind (arith, common_steps, nat_tests, names_from)
 
 -- who takes part has not failed at Identify
 pub participants_are_fit : (s : Plan) (acts : List Act) (w : ℕ) → is_member (state s acts).course.members w ≡ true → has_failed_identify (slice_get (state s acts).course.rows w) ≡ false
-participants_are_fit s acts w e = grind (arith, asked_are_fit, names_from)
+participants_are_fit s acts w e = grind (arith, common_steps, names_from)
 
 -- ## whom a session knows, once its writers are gathered
 
@@ -428,15 +354,12 @@ module _ (s : Plan) (st : State) where
   knows_failed : (o : Option SetRow) (why : VssResult) (x : State) → x.course ≡ st.course → KnowsStill (failed_in o why x)
   knows_failed o why x e = grind (arith, knows_same, keeps_failed, knows_kept, course-concluded)
 
-  knows_room : (b : Bool) (x : State) → x.course ≡ st.course → KnowsStill (with_room_if b x)
-  knows_room b x e = grind (arith, knows_failed, knows_same)
-
   knows_put : (v : ℕ) (w : Write) (mark : Mark) (x : State) → KnowsStill x → KnowsStill (put v w mark x)
   knows_put v w mark x h = grind arith
 
   knows_write : (v : ℕ) (w : Write) (mark : Mark) → KnowsStill (write s v w mark st).1
   unfolding write
-  knows_write v w mark = grind (arith, knows_put, knows_room)
+  knows_write v w mark = grind (arith, common_steps, knows_put, knows_failed, knows_same)
 
   knows_revert : (v : ℕ) (k : Kept) (mark : Mark) → KnowsStill (reverted_as s v k mark st).1
   knows_revert v k mark = grind arith

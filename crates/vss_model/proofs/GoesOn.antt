@@ -1,42 +1,20 @@
 -- A legal trail that is not complete can go on.
-use Rattle.std.proofs.Common.{◌≡◌, ℕ, ◌+◌, ◌==◌, zero, suc, List, [], ◌∷◌, ◌++◌, Option, Some, None, refl, Bool, true, false, ap, sym, ◌∙◌, subst, inl, inr, drop, cond, arith}
-use Rattle.std.proofs.lemmas.List.Sums.{sum_by-append}
+use Rattle.std.proofs.Common.{◌≡◌, ℕ, ◌+◌, ◌==◌, zero, suc, List, [], ◌∷◌, ◌++◌, Option, Some, None, refl, Bool, true, false, ap, sym, ◌∙◌, subst, inl, inr, drop, arith}
 use Rattle.std.specs.Prelude.{option_map, ◌⊎◌, is_none, length, ◌&&◌, ◌||◌, not, slice_get}
-use Rattle.std.specs.List.{list_all, range_with_len}
-use Rattle.std.proofs.lemmas.Bool.{and_from, and_parts, eq-eqb, eqb-true}
-use Rattle.std.proofs.lemmas.Grind.{common_steps}
-use Rattle.write_history.specs.declared.actor.Actor.{Actor}
-use Rattle.write_history.specs.declared.actor.Actor.TheVariants.{Lane, Writer, Advance, Idle as IdleActor}
-use Rattle.write_history.specs.declared.mark.Mark.{Mark}
-use Rattle.write_history.specs.declared.mark.Mark.TheVariants.{Clean}
-use Rattle.write_history.specs.declared.move_item.Move.{Move}
-use Rattle.set_agenda.specs.Agenda.{is_asking, is_working}
-use Rattle.requestor.specs.Session.{Session, agenda_ended, set_failed}
-use Rattle.scenario.specs.declared.op.Op.{Op}
-use Rattle.scenario.specs.declared.op.Op.TheVariants.{End}
-use Rattle.scenario.specs.Plan.{Plan, LaneLine, lines_of}
-use Rattle.vss_model.specs.declared.event.Event.{Event}
-use Rattle.vss_model.specs.declared.event.Event.TheVariants.{Line}
-use Rattle.vss_model.specs.State.{State, left_now}
-use Rattle.vss_model.specs.Ending.{runs}
-use Rattle.vss_model.specs.Sessions.{closed}
-use Rattle.vss_model.specs.Lines.{called, line}
-use Rattle.vss_model.specs.Acts.{Act, after, enabled, line_enabled}
-use Rattle.vss_model.specs.Trail.{Run, begin, is_lane, cursor, next_line, line_event, answer_event, script_event, event_of, act_of, after_event, moved}
-use Rattle.vss_model.specs.Trail.{run_from, run, event_enabled, can_act, none_can_act, may_move, allows as allows_mark, is_legal_move, is_legal_from}
-use Rattle.vss_model.specs.Trail.{is_legal, is_used_up, is_complete}
-use Rattle.scenario.specs.Bounds.{is_begin, is_end, has_end, ends_sessions}
-use Rattle.vss_model.specs.GoesOn.{EndsSessions, CanGoOn}
-use Rattle.vss_model.proofs.ByEvent.{after_enabled}
+use Rattle.vss_model.proofs.Terms.{sum_by-append, list_all, range_with_len, and_from, and_parts, eq-eqb, eqb-true, common_steps, Actor, Lane, Writer, Advance}
+use Rattle.vss_model.proofs.Terms.{Mark, Clean, Move, is_asking, is_working, Session, agenda_ended, set_failed, Op, End, Plan, LaneLine, lines_of, Event, Line}
+use Rattle.vss_model.proofs.Terms.{State, left_now, runs, Act, after, enabled, line_enabled, Run, begin, is_lane, cursor, next_line, line_event, answer_event}
+use Rattle.vss_model.proofs.Terms.{event_of, act_of, after_event, moved, run_from, run, event_enabled, can_act, none_can_act, may_move, allows as allows_mark}
+use Rattle.vss_model.proofs.Terms.{is_legal_move, is_legal_from, is_legal, is_used_up, is_complete, is_begin, is_end, has_end, ends_sessions, EndsSessions}
+use Rattle.vss_model.proofs.Terms.{CanGoOn, Change, SessionIs, apply, Answer}
+use Rattle.write_history.specs.declared.actor.Actor.TheVariants.{Idle as IdleActor}
+use Rattle.vss_model.proofs.StateForm.{closed, called, line}
+use Rattle.vss_model.proofs.Changes.{after_enabled, SessionStep, Opens, Starts, EndsAgenda, FailsSet, Closes, session_after, IsStepDue, Comes, by_changes}
 use Rattle.vss_model.proofs.Rows.{none_runs}
-use Rattle.vss_model.specs.Changes.{Change, SessionIs, apply}
-use Rattle.vss_model.proofs.Changes.{SessionStep, Opens, Starts, EndsAgenda, FailsSet, Closes, session_after, IsStepDue, Comes, by_changes}
 use Rattle.vss_model.proofs.Rule.{begins_at}
 use Rattle.vss_model.proofs.Appending.{state-run, moves-run}
 use Rattle.vss_model.proofs.Orderly.{true_not_false}
 use Rattle.vss_model.proofs.Waiting.{working_or_asking}
-use Rattle.writer_calls.specs.declared.answer.Answer.{Answer}
-use Rattle.vss_names.specs.declared.order.Order.{Order}
 use Rattle.vss_model.proofs.GoingOn.{running_off}
 
 -- ## whose session stands
@@ -91,14 +69,11 @@ abbrev pub EndsLeft : Plan → List Move → Option Session → Type 0
 EndsLeft s moves None = Unit {0}
 EndsLeft s moves (Some q) = has_end (rest_of s moves q.owner) ≡ true
 
-cursor_as : (moves : List Move) (m : Move) (i : ℕ) (b : Bool) → is_lane i m.actor ≡ b → cursor (moves ++ m ∷ []) i ≡ cursor moves i + (0 + cond b 1 0)
-cursor_as moves m i b e = sum_by-append (λ (x : Move). cond (is_lane i x.actor) 1 0) moves (m ∷ []) ∙ ap (λ c. cursor moves i + (0 + cond c 1 0)) e
-
 pub cursor_more : (moves : List Move) (m : Move) (i : ℕ) → is_lane i m.actor ≡ true → cursor (moves ++ m ∷ []) i ≡ suc (cursor moves i)
-cursor_more moves m i e = grind (arith, cursor_as)
+cursor_more moves m i e = grind (arith, common_steps, sum_by-append)
 
 pub cursor_same : (moves : List Move) (m : Move) (i : ℕ) → is_lane i m.actor ≡ false → cursor (moves ++ m ∷ []) i ≡ cursor moves i
-cursor_same moves m i e = grind (arith, cursor_as)
+cursor_same moves m i e = grind (arith, common_steps, sum_by-append)
 
 drop_at : (lines : List LaneLine) (n : ℕ) (l : LaneLine) → slice_get lines n ≡ Some l → drop n lines ≡ l ∷ drop (suc n) lines
 drop_at [] zero l e = absurd cc
@@ -225,13 +200,9 @@ on_answer_move : (s : Plan) (r : Run) (m : Move) (w : ℕ) (x : Option Answer) �
     → EndsLeft s (r.moves ++ m ∷ []) (after_event s r.state (answer_event w x) m.mark).session
 on_answer_move s r m w x e on h = grind (arith, quiet_move, true_not_false)
 
-on_script_move : (s : Plan) (r : Run) (m : Move) (w : ℕ) (x : Option Order) → m.actor ≡ Writer w → event_enabled s r (script_event s r.state w x) ≡ true → EndsLeft s r.moves r.state.session
-    → EndsLeft s (r.moves ++ m ∷ []) (after_event s r.state (script_event s r.state w x) m.mark).session
-on_script_move s r m w x e on h = grind (arith, on_answer_move)
-
 on_move : (s : Plan) (r : Run) (m : Move) (a : Actor) → EndsSessions s → m.actor ≡ a → can_act s r a ≡ true → EndsLeft s r.moves r.state.session
     → EndsLeft s (r.moves ++ m ∷ []) (after_event s r.state (event_of s r a) m.mark).session
-on_move s r m a good e on h = grind (arith, on_line_move, on_script_move, quiet_move, true_not_false)
+on_move s r m a good e on h = grind (arith, common_steps, on_line_move, on_answer_move, quiet_move, true_not_false)
 
 pub legal_ends : (s : Plan) (r : Run) (ms : List Move) → EndsSessions s → EndsLeft s r.moves r.state.session → is_legal_from s r ms ≡ true → EndsLeft s (run_from s r ms).moves (run_from s r ms).state.session
 legal_ends s r [] good h e = h

@@ -1,11 +1,8 @@
 -- What is known where the checks let a session call go.
 use Rattle.std.proofs.Common.{◌≡◌, ℕ, Option, Some, Bool, true, false, arith}
 use Rattle.std.specs.Prelude.{◌&&◌, not}
-use Rattle.requestor.specs.declared.session_call.SessionCall.{SessionCall}
-use Rattle.requestor.specs.declared.verdict.Verdict.{Verdict}
-use Rattle.requestor.specs.declared.verdict.Verdict.TheVariants.{Go}
-use Rattle.requestor.specs.Session.{Session, makes_set, has_writers}
-use Rattle.requestor.specs.Check.{verdict_of, owner_only, check_other, goes_beside_agenda, is_start, allows}
+use Rattle.vss_model.proofs.Terms.{SessionCall, Verdict, Go, Session, makes_set, has_writers, verdict_of, owner_only, check_other, goes_beside_agenda, is_start}
+use Rattle.requestor.specs.Check.{allows}
 
 -- the call is the owner's; no agenda runs but for the calls that go beside one, and `start` makes the first set
 pub record Goes (session : Option Session) (running : Bool) (call : SessionCall) : Type 0 where

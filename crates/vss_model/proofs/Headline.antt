@@ -1,32 +1,20 @@
 -- Every run keeps its promises, and a legal and complete trail makes each line once.
-use Rattle.std.proofs.lemmas.Option.{slice_get_within}
 use Rattle.std.proofs.Common.{◌≡◌, ℕ, zero, suc, ◌+◌, ◌==◌, ◌<◌, ◌≤◌, List, [], ◌∷◌, ◌++◌, Option, Some, None, refl, Bool, true, false, ap, ◌∙◌, subst, length, inl, inr, arith}
 use Rattle.std.specs.Prelude.{◌⊎◌, is_none, not, slice_get}
-use Rattle.std.specs.List.{list_all, range_with_len}
-use Rattle.std.proofs.lemmas.Bool.{and_parts, eqb-true, cases_lt}
-use Rattle.std.proofs.lemmas.Grind.{common_steps}
-use Rattle.write_history.specs.History.{point_in}
-use Rattle.write_history.specs.declared.actor.Actor.{Actor}
-use Rattle.write_history.specs.declared.actor.Actor.TheVariants.{Lane}
-use Rattle.write_history.specs.declared.move_item.Move.{Move}
-use Rattle.set_agenda.specs.Agenda.{open_group, is_among}
-use Rattle.set_agenda.specs.Course.{is_member}
-use Rattle.scenario.specs.Plan.{Plan, LaneLine, LanePlan, lines_in, lines_of}
-use Rattle.vss_model.specs.State.{State, SetRow, in_progress, row_of, left_now, history_of, is_held, is_frozen}
-use Rattle.vss_model.specs.Ending.{runs}
-use Rattle.vss_model.specs.Acts.{Act, after, state}
-use Rattle.vss_model.specs.Cut.{cut, is_set as has_number, is_cut_group, IsShownAt}
-use Rattle.vss_model.specs.Headline.{ReadsAsAtTheCut, LeavesNothing, IsHeldForSet, IsFrozenForSet, KeepsSet, MakesEachLineOnce}
-use Rattle.vss_model.specs.Facts.{has_failed}
-use Rattle.vss_model.specs.Laws.{RunsSnapshot}
-use Rattle.vss_model.specs.Trail.{Run, run, begin, run_from, moved, is_lane, cursor, next_line, line_event, event_of, event_enabled, may_move, allows, is_legal_move, is_legal_from, is_legal, is_used_up, is_over, is_complete}
+use Rattle.vss_model.proofs.Terms.{list_all, range_with_len, and_parts, eqb-true, cases_lt, common_steps, point_in, Actor, Lane, Move, open_group, is_among}
+use Rattle.vss_model.proofs.Terms.{Plan, LaneLine, LanePlan, lines_in, lines_of, State, SetRow, in_progress, row_of, left_now, history_of, is_held}
+use Rattle.vss_model.proofs.Terms.{is_frozen, runs, Act, after, state, cut, is_set as has_number, is_cut_group, IsShownAt, ReadsAsAtTheCut, LeavesNothing}
+use Rattle.vss_model.proofs.Terms.{IsHeldForSet, IsFrozenForSet, KeepsSet, MakesEachLineOnce, has_failed, RunsSnapshot, Run, run, begin, run_from, moved}
+use Rattle.vss_model.proofs.Terms.{is_lane, cursor, next_line, line_event, event_of, event_enabled, may_move, allows, is_legal_move, is_legal_from, is_legal}
+use Rattle.vss_model.proofs.Terms.{is_used_up, is_over, is_complete}
+use Rattle.std.proofs.lemmas.Option.{slice_get_within}
 use Rattle.vss_model.proofs.OneCut.{image_shown, image_reads, cut_is_at}
 use Rattle.vss_model.proofs.AtCut.{held_at_cut, frozen_at_cut}
 use Rattle.vss_model.proofs.Failures.{failed_keeps_nothing, failed_has_no_copy}
 use Rattle.vss_model.proofs.HeldOfSet.{held_means, frozen_means}
 use Rattle.vss_model.proofs.HeldWrites.{held_keeps}
 use Rattle.vss_model.proofs.LogRule.{Running}
-use Rattle.vss_model.proofs.Spoken.{HoldsOwn, FreezesOwn, held_own, frozen_own}
+use Rattle.vss_model.proofs.Spoken.{HoldsOwn, held_own, frozen_own}
 use Rattle.vss_model.proofs.Freed.{not_held_after, not_frozen_after}
 use Rattle.vss_model.proofs.Completed.{imaged_after}
 use Rattle.vss_model.proofs.FlushFails.{flush_fails}
@@ -51,14 +39,11 @@ reads_as s so_far n v p h (Some before) e i =
 held_volume : (st : State) (v : ℕ) (run : RunsSnapshot st) → Running HoldsOwn st.course.agenda → is_held st v ≡ true → is_among v run.set.volumes ≡ true
 held_volume st v run own e = grind arith
 
-frozen_participant : (st : State) (w : ℕ) (run : RunsSnapshot st) → Running FreezesOwn st.course.agenda → is_frozen st w ≡ true → is_member st.course.members w ≡ true
-frozen_participant st w run own e = grind arith
-
 pub held_for_set : (s : Plan) (so_far : List Act) (v : ℕ) → is_held (state s so_far) v ≡ true → IsHeldForSet (state s so_far) v
 held_for_set s so_far v e = grind (arith, held_means, held_volume, held_own)
 
 pub frozen_for_set : (s : Plan) (so_far : List Act) (w : ℕ) → is_frozen (state s so_far) w ≡ true → IsFrozenForSet (state s so_far) w
-frozen_for_set s so_far w e = grind (arith, frozen_means, frozen_participant, frozen_own)
+frozen_for_set s so_far w e = grind (arith, common_steps, frozen_means, frozen_own)
 
 -- ## what an act keeps of the set in progress
 

@@ -3,36 +3,22 @@
 use Rattle.std.proofs.Common.{◌≡◌, ◌⊎◌, ℕ, ◌+◌, ◌==◌, ◌<◌, zero, suc, List, [], ◌∷◌, ◌++◌, Option, Some, None, refl, Bool, true, false, filter, length, drop}
 use Rattle.std.proofs.Common.{ap, sym, ◌∙◌, subst, find, fold, inl, inr, arith}
 use Rattle.std.specs.Prelude.{option_map, is_some, ◌&&◌, not, if◌then◌else◌, nat_lt, slice_get}
-use Rattle.std.specs.List.{range_with_len}
-use Rattle.std.proofs.Math.Seq.{drop-length}
-use Rattle.std.proofs.lemmas.Bool.{eq-eqb, eqb-true}
-use Rattle.std.proofs.lemmas.Grind.{common_steps}
-use Rattle.vss_names.specs.declared.set_outcome.SetOutcome.{SetOutcome}
-use Rattle.write_history.specs.declared.mark.Mark.{Mark}
-use Rattle.write_history.specs.History.{Write, Image, History, point_in, names, blocks_named, dropped, written, reverted, reverted_in_part, after_set, cut as history_cut, AreLater, AreInTime}
-use Rattle.write_history.specs.Slots.{named, used_by}
-use Rattle.set_agenda.specs.declared.group.Group.TheVariants.{Hold, Release}
-use Rattle.set_agenda.specs.declared.member.Member.{Member}
-use Rattle.set_agenda.specs.Agenda.{Agenda, open_group, has_said, plain, is_among, is_snapshot, is_held as holds}
-use Rattle.set_agenda.specs.Course.{Course, change_at, released}
-use Rattle.scenario.specs.Plan.{Plan}
-use Rattle.vss_model.specs.State.{State, SetRow, is_running, in_progress, history_in, history_of, left_now, is_held}
-use Rattle.vss_model.specs.Ending.{runs}
-use Rattle.vss_model.specs.Images.{is_in_set}
-use Rattle.vss_model.specs.Sessions.{with_volume, change_set}
-use Rattle.vss_model.specs.Steps.{cut_if, cut_each, row_cut, cut_set}
-use Rattle.vss_model.specs.Acts.{Act, after, state}
-use Rattle.vss_model.specs.Cut.{is_provider, is_cut_group}
-use Rattle.vss_model.specs.Facts.{IsOrderly}
-use Rattle.vss_model.specs.declared.event.Event.{Event}
-use Rattle.vss_model.specs.Changes.{Change, Passes, SessionIs, Names, StartsSet, AddsVolume, IsCutAt, CourseIs, Settles, Writes, Cuts, Reverts, RevertsPart}
-use Rattle.vss_model.specs.Changes.{DropsSet, Drops, Evicts, apply}
+use Rattle.vss_model.proofs.Terms.{nat_tests, range_with_len, drop-length, eq-eqb, eqb-true, common_steps, Mark, Write, Image, History, point_in, blocks_named}
+use Rattle.vss_model.proofs.Terms.{dropped, written, reverted, reverted_in_part, after_set, AreLater, AreInTime, named, used_by, Hold, Release, Agenda}
+use Rattle.vss_model.proofs.Terms.{open_group, has_said, plain, is_among, is_snapshot, Course, change_at, released, Plan, State, SetRow, is_running}
+use Rattle.vss_model.proofs.Terms.{in_progress, history_in, history_of, left_now, is_held, runs, is_in_set, with_volume, cut_each, row_cut, Act, after, state}
+use Rattle.vss_model.proofs.Terms.{is_provider, is_cut_group, IsOrderly, Event, Change, Passes, SessionIs, StartsSet, AddsVolume, IsCutAt, CourseIs, Settles}
+use Rattle.vss_model.proofs.Terms.{Writes, Cuts, Reverts, RevertsPart, DropsSet, Drops, Evicts, apply}
+use Rattle.write_history.specs.History.{names, cut as history_cut}
+use Rattle.set_agenda.specs.Agenda.{is_held as holds}
+use Rattle.vss_model.proofs.StateForm.{change_set, cut_set}
+use Rattle.vss_model.specs.Changes.{Names}
 use Rattle.vss_model.proofs.Changes.{Comes, is_end, by_changes}
 use Rattle.vss_model.proofs.FewerImages.{is_cut, no_cut}
 use Rattle.vss_model.proofs.Appending.{state-append}
 use Rattle.vss_model.proofs.Orderly.{true_not_false, find-map}
 use Rattle.vss_model.proofs.OrderlyActs.{moves_stepped, orderly}
-use Rattle.vss_model.proofs.HeldOfSet.{IsSameAgenda, goes_stepped, find-row_cut, volumes-row_cut_if}
+use Rattle.vss_model.proofs.HeldOfSet.{goes_stepped, find-row_cut, volumes-row_cut_if}
 use Rattle.vss_model.proofs.HeldWrites.{apart}
 use Rattle.vss_model.proofs.AtCut.{CutsNow, cuts, held_at_cut}
 use Rattle.vss_model.proofs.CutStep.{both, working_at_cut, has_set, by_cut}
@@ -86,20 +72,13 @@ record Fewer (m : Bool) (h k : History) : Type 0 where
 fewer_same : (m : Bool) (h : History) → Fewer m h h
 fewer_same m h = record { writes = λ e. refl; images = λ n p e. e }
 
-filter_head : (b t : Bool) (i : Image) (n : ℕ) (less rest : List Image) → ((i.set == n) ≡ true → b ≡ t) → point_in n less ≡ (if t then point_in n rest else None)
-    → point_in n (if b then i ∷ less else less) ≡ (if t then point_in n (i ∷ rest) else None)
-filter_head b t i n less rest f g = grind arith
-
 -- images that are kept by their sets
 point_in-filter : (test : ℕ → Bool) (n : ℕ) (images : List Image) → point_in n (filter (λ i. test i.set) images) ≡ (if test n then point_in n images else None)
 point_in-filter test n [] = grind (arith, common_steps)
-point_in-filter test n (i ∷ images) = let ih = point_in-filter test n images in grind (arith, common_steps, filter_head, eqb-true)
-
-some_of : (b : Bool) (o less : Option ℕ) (p : ℕ) → less ≡ (if b then o else None) → less ≡ Some p → o ≡ Some p
-some_of b o less p e f = grind arith
+point_in-filter test n (i ∷ images) = let ih = point_in-filter test n images in grind (arith, common_steps, eqb-true)
 
 kept_images : (test : ℕ → Bool) (n p : ℕ) (images : List Image) → point_in n (filter (λ i. test i.set) images) ≡ Some p → point_in n images ≡ Some p
-kept_images test n p images e = some_of (test n) (point_in n images) _ p (point_in-filter test n images) e
+kept_images test n p images e = grind (arith, common_steps, nat_tests, point_in-filter)
 
 fewer_dropped : (m : Bool) (n : ℕ) (h : History) → Fewer m h (dropped n h)
 fewer_dropped m n h = record { writes = λ e. refl; images = λ k p e. kept_images (λ x. not (x == n)) k p h.images e }
@@ -126,15 +105,11 @@ no_image_any m v a o h e = grind arith
 not_some : (o : Option ℕ) → ((p : ℕ) → o ≡ Some p → ⊥) → o ≡ None
 not_some o f = grind arith
 
--- where an image cannot be unused, there is none
-no_image_of : (m : Bool) (v : ℕ) (a : Option Agenda) (o : Option SetRow) (h : History) → ((r : SetRow) (p : ℕ) → o ≡ Some r → AgendaUnused m v a r p h.writes → ⊥) → SetUnused m v a o h → NoImage o h.images
-no_image_of m v a o h f g = grind arith
-
 quiet_no_image : (m : Bool) (v : ℕ) (a : Option Agenda) (o : Option SetRow) (h : History) → is_some a ≡ false → SetUnused m v a o h → NoImage o h.images
 quiet_no_image m v a o h e g = grind arith
 
 plain_no_image : (m : Bool) (v : ℕ) (a : Agenda) (o : Option SetRow) (h : History) → is_snapshot a.kind ≡ false → SetUnused m v (Some a) o h → NoImage o h.images
-plain_no_image m v a o h e g = no_image_of m v (Some a) o h (λ r p f i. true_not_false (is_snapshot a.kind) i.snapshot e) g
+plain_no_image m v a o h e g = grind (arith, common_steps, nat_tests, true_not_false)
 
 -- a volume that is not of the set has none of its images
 outside_no_image : (m : Bool) (v : ℕ) (a : Option Agenda) (o : Option SetRow) (h : History) → is_in_set v o ≡ false → SetUnused m v a o h → NoImage o h.images
@@ -148,18 +123,8 @@ no_image_rows f same o images e = grind arith
 
 -- ## the rule of the set in progress
 
-set_follows : (m : Bool) (v : ℕ) (a b : Agenda) (ms ns : List Member) (o q : SetOutcome) (found : Option SetRow) (h : History) → IsSameAgenda a b ms ns o q → SetUnused m v (Some a) found h → SetUnused m v (Some b) found h
-set_follows m v a b ms ns o q found h f g = grind arith
-
 unused_fact : (m : Bool) (v : ℕ) (h : History) → IsSetFact (λ a o. SetUnused m v a o h) (λ o. NoImage o h.images)
-unused_fact m v h = record {
-  none = λ a. tt;
-  any = λ a o e. no_image_any m v a o h e;
-  quiet = λ o g. quiet_no_image m v None o h refl g;
-  plain = λ a o e g. plain_no_image m v a o h e g;
-  goes = λ a b ms ns o p found e g. set_follows m v a b ms ns o p found h e g;
-  rows = λ f same o e. no_image_rows f same o h.images e;
-}
+unused_fact m v h = grind (arith, common_steps, nat_tests, no_image_any, quiet_no_image, plain_no_image, no_image_rows)
 
 abbrev Holds : Bool → ℕ → State → Type 0
 Holds m v x = HoldsIn (λ a o. SetUnused m v a o (history_of x v)) (λ o. NoImage o (history_of x v).images) (unused_fact m v (history_of x v))
@@ -264,13 +229,10 @@ module _ (m : Bool) (v : ℕ) (s : Plan) (e : Event) (mark : Mark) (st : State) 
 abbrev IsCutHistory : ℕ → List ℕ → ℕ → History → History → Type 0
 IsCutHistory n vs v h k = (k ≡ h) ⊎ ((is_among v vs ≡ true) × (k ≡ history_cut n h))
 
-cut_head : (b : Bool) (n : ℕ) (vs : List ℕ) (v : ℕ) (h : History) → is_among v vs ≡ b → IsCutHistory n vs v h (cut_if b n h)
-cut_head b n vs v h e = grind arith
-
 cut_each_at : (n : ℕ) (vs : List ℕ) (base : ℕ) (hs : List History) (v u : ℕ) → u ≡ base + v → IsCutHistory n vs u (history_in (slice_get hs v)) (history_in (slice_get (cut_each n vs base hs) v))
 cut_each_at n vs base [] zero u e = inl refl
 cut_each_at n vs base [] (suc v) u e = inl refl
-cut_each_at n vs base (x ∷ hs) zero u e = grind (arith, common_steps, cut_head)
+cut_each_at n vs base (x ∷ hs) zero u e = grind (arith, common_steps)
 cut_each_at n vs base (x ∷ hs) (suc v) u e = cut_each_at n vs (base + 1) hs v u (shift base v u e) where
   shift : (a b u : ℕ) → u ≡ a + suc b → u ≡ (a + 1) + b
   shift a b u e = omega arith

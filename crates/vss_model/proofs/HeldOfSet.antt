@@ -1,31 +1,13 @@
 -- A running snapshot agenda is that of the one set in progress, with its volumes and participants.
-use Rattle.std.proofs.Common.{◌≡◌, ℕ, List, [], ◌∷◌, Option, Some, None, refl, Bool, true, false, map, ap, ◌∙◌, sym, subst, find, arith}
+use Rattle.std.proofs.Common.{◌≡◌, ℕ, List, [], ◌∷◌, Option, Some, None, refl, Bool, true, false, map, ap, ◌∙◌, find, arith}
 use Rattle.std.specs.Prelude.{option_map, if◌then◌else◌}
-use Rattle.std.proofs.lemmas.Grind.{common_steps}
-use Rattle.vss_names.specs.declared.order.Order.{Order}
-use Rattle.vss_names.specs.declared.vss_result.VssResult.{VssResult}
-use Rattle.vss_names.specs.declared.set_outcome.SetOutcome.{SetOutcome}
-use Rattle.writer_state.specs.declared.said.Said.{Said}
-use Rattle.writer_state.specs.declared.said.Said.TheVariants.{Ok}
-use Rattle.write_history.specs.declared.mark.Mark.{Mark}
-use Rattle.set_agenda.specs.declared.kind.Kind.{Kind}
-use Rattle.set_agenda.specs.declared.kind.Kind.TheVariants.{Gather, Prepare, Snapshot, Complete}
-use Rattle.set_agenda.specs.declared.member.Member.{Member}
-use Rattle.set_agenda.specs.declared.place.Place.{Place}
-use Rattle.set_agenda.specs.Agenda.{Agenda, left, all_say, next_member, has_said, is_held as holds, is_frozen as freezes}
-use Rattle.set_agenda.specs.Course.{Course, posted, failed as course_failed, settled, begun, told, answered as course_answered, worked}
-use Rattle.set_agenda.specs.Course.{stepped as course_stepped, timed as course_timed, released}
-use Rattle.scenario.specs.Plan.{Plan}
-use Rattle.vss_model.specs.State.{State, SetRow, start, is_running, in_progress, is_held, is_frozen}
-use Rattle.vss_model.specs.Ending.{runs}
-use Rattle.vss_model.specs.Sessions.{has_no_volume, volumes_of}
-use Rattle.vss_model.specs.Steps.{row_cut}
-use Rattle.vss_model.specs.declared.event.Event.{Event}
-use Rattle.vss_model.specs.Acts.{Act, state}
-use Rattle.vss_model.specs.Laws.{RunsSnapshot}
-use Rattle.set_agenda.proofs.CourseRule.{IsKeptFrom, from_settled, from_answered, from_timed}
+use Rattle.vss_model.proofs.Terms.{nat_tests, common_steps, Order, VssResult, SetOutcome, Said, Ok, Mark, Kind, Gather, Prepare, Snapshot, Complete, Member}
+use Rattle.vss_model.proofs.Terms.{Place, Agenda, left, all_say, next_member, has_said, Course, posted, failed as course_failed, settled, begun, told}
+use Rattle.vss_model.proofs.Terms.{answered as course_answered, worked, stepped as course_stepped, timed as course_timed, released, Plan, State, SetRow, start}
+use Rattle.vss_model.proofs.Terms.{is_running, in_progress, is_held, is_frozen, runs, has_no_volume, volumes_of, row_cut, Event, Act, state, RunsSnapshot}
+use Rattle.vss_model.proofs.Terms.{IsKeptFrom, from_settled, from_answered, from_timed, Change, apply}
+use Rattle.set_agenda.specs.Agenda.{is_held as holds, is_frozen as freezes}
 use Rattle.vss_model.proofs.Rows.{none_runs}
-use Rattle.vss_model.specs.Changes.{Change, CourseIs, StartsSet, AddsVolume, IsCutAt, Settles, apply}
 use Rattle.vss_model.proofs.Changes.{CourseCall, Answers, Steps, Times, Gathers, Prepares, Snapshots, Completes, Disables, called, IsDue, Stands, Comes}
 use Rattle.vss_model.proofs.Changes.{by_all_changes}
 use Rattle.vss_model.proofs.CutLog.{said_stays}
@@ -71,9 +53,6 @@ Follows (Some a) ms o (Some b) ns p = IsSameAgenda a b ms ns o p
 abbrev pub GoesOn : Course → Course → Type 0
 GoesOn c d = Follows c.agenda c.members c.outcome d.agenda d.members d.outcome
 
-follows_same : (a : Option Agenda) (ms : List Member) (o : SetOutcome) → Follows a ms o a ms o
-follows_same a ms o = grind arith
-
 follows_said : (said : Said) (now : ℕ) (ws : List ℕ) (a : Option Agenda) (ms : List Member) (o : SetOutcome) → Follows a ms o (option_map (all_say said now ws) a) ms o
 follows_said said now ws a ms o = grind (arith, said_stays)
 
@@ -94,7 +73,7 @@ unfolding posted
 goes_posted before c d h = h
 
 goes_kept : (c : Course) → IsKeptFrom (GoesOn c) c
-goes_kept c = grind (arith, follows_same, goes_posted, goes_told, goes_worked, goes_failed)
+goes_kept c = grind (arith, common_steps, goes_posted, goes_told, goes_worked, goes_failed)
 
 pub goes_answered : (w : ℕ) (said : Said) (now : ℕ) (c : Course) → GoesOn c (course_answered w said now c)
 goes_answered w said now c = from_answered (GoesOn c) c (goes_kept c) w said now
@@ -123,19 +102,10 @@ own_set o p ms e f = grind arith
 pub volumes-row_cut_if : (b : Bool) (now : ℕ) (r : SetRow) → (if b then record r { cut_at = Some now } else r).volumes ≡ r.volumes
 volumes-row_cut_if b now r = grind arith
 
-result-row_cut_if : (b : Bool) (now : ℕ) (r : SetRow) → (if b then record r { cut_at = Some now } else r).result ≡ r.result
-result-row_cut_if b now r = grind arith
-
-find_if : (test : SetRow → Bool) (b c : Bool) (f : SetRow → SetRow) (r : SetRow) (found other : Option SetRow) → c ≡ b → other ≡ option_map f found → (if c then Some (f r) else other) ≡ option_map f (if b then Some r else found)
-find_if test b c f r found other e h = grind arith
-
 -- the set in progress is found by its result, which a cut leaves
 pub find-row_cut : (n now : ℕ) (rows : List SetRow) → find (λ r. is_running r.result) (map (row_cut n now) rows) ≡ option_map (row_cut n now) (find (λ r. is_running r.result) rows)
 find-row_cut n now [] = refl
-find-row_cut n now (r ∷ rows) = let ih = find-row_cut n now rows in grind (arith, common_steps, find_if, result-row_cut_if)
-
-tied-row_cut : (a : Option Agenda) (ms : List Member) (n now : ℕ) (o : Option SetRow) → Tied a ms o → Tied a ms (option_map (row_cut n now) o)
-tied-row_cut a ms n now o h = grind arith
+find-row_cut n now (r ∷ rows) = let ih = find-row_cut n now rows in grind (arith, common_steps)
 
 -- ## each change keeps it
 
@@ -158,13 +128,7 @@ quiet_tied : (st x : State) (r : Option SetRow) → x.course ≡ st.course → r
 quiet_tied st x r e f = tied_none x.course.agenda x.course.members r (ap (λ (c : Course). c.agenda) e ∙ none_runs st.course.agenda f)
 
 tied_apply : (s : Plan) (e : Event) (m : Mark) (st : State) (c : Change) (x : State) → Comes s e m st x c → IsTied x → IsTied (apply x c)
-tied_apply s e m st (CourseIs c) x i h = subst (λ (d : Course). Tied d.agenda d.members (in_progress x)) (sym i.is) (tied_called s st x i.call i.due i.stands h)
-tied_apply s e m st (StartsSet r) x i h = quiet_tied st x _ i.course i.goes.quiet
-tied_apply s e m st (AddsVolume n v) x i h = quiet_tied st x _ (ap (λ (y : State). y.course) i.first) i.goes.quiet
-tied_apply s e m st (IsCutAt n now) x i h = subst (Tied x.course.agenda x.course.members) (sym (find-row_cut n now x.sets))
-    (tied-row_cut x.course.agenda x.course.members n now (in_progress x) h)
-tied_apply s e m st (Settles o) x i h = tied_none x.course.agenda x.course.members _ i.0
-tied_apply s e m st _ x i h = h
+tied_apply s e m st c x i h = grind (arith, common_steps, nat_tests, tied_called, quiet_tied, find-row_cut, tied_none)
 
 pub tied : (s : Plan) (acts : List Act) → IsTied (state s acts)
 tied s acts = by_all_changes IsTied s (tied_apply s) (start s) acts tt

@@ -1,16 +1,9 @@
 -- The effective writes of a volume change by writes and reverts of it alone; so those of a volume of the set in progress do not
 -- change while it is held.
 use Rattle.std.proofs.Common.{◌≡◌, ◌∙◌, ℕ, ◌==◌, List, Some, refl, Bool, true, false, ap, arith}
-use Rattle.std.proofs.lemmas.Grind.{common_steps}
-use Rattle.write_history.specs.declared.mark.Mark.{Mark}
-use Rattle.write_history.specs.History.{History, written, dropped, reverted, reverted_in_part}
-use Rattle.set_agenda.specs.Agenda.{is_among}
-use Rattle.scenario.specs.Plan.{Plan}
-use Rattle.vss_model.specs.declared.event.Event.{Event}
-use Rattle.vss_model.specs.State.{State, SetRow, in_progress, history_of, is_held}
-use Rattle.vss_model.specs.Images.{is_in_set}
-use Rattle.vss_model.specs.Acts.{Act, after, state}
-use Rattle.vss_model.specs.Changes.{Change, Writes, Cuts, Reverts, RevertsPart, DropsSet, Drops, Evicts, apply}
+use Rattle.vss_model.proofs.Terms.{common_steps, Mark, History, written, dropped, reverted, reverted_in_part, is_among, Plan, Event, State, SetRow, in_progress}
+use Rattle.vss_model.proofs.Terms.{history_of, is_held, is_in_set, Act, after, state, Change, Writes, Cuts, Reverts, RevertsPart, DropsSet, Drops, Evicts}
+use Rattle.vss_model.proofs.Terms.{apply}
 use Rattle.vss_model.proofs.Changes.{Comes, by_changes}
 use Rattle.vss_model.proofs.Volumes.{at, each_map, each_change, each_gone, each_cut, change_other}
 

@@ -1,11 +1,6 @@
 -- While the Hold group is open the Cut step is not made, and nothing is said of a Release.
 use Rattle.std.proofs.Common.{◌≡◌, ℕ, List, [], ◌∷◌, Some, Bool, true, false, subst, arith}
-use Rattle.set_agenda.specs.declared.group.Group.TheVariants.{Hold, Cut, Release}
-use Rattle.set_agenda.specs.Limits.{is_hold}
-use Rattle.set_agenda.specs.Agenda.{Agenda, Open, plain, has_said, groups_left, open_group}
-use Rattle.scenario.specs.Plan.{Plan}
-use Rattle.vss_model.specs.State.{left_now}
-use Rattle.vss_model.specs.Acts.{Act, state}
+use Rattle.vss_model.proofs.Terms.{Hold, Cut, Release, is_hold, Agenda, Open, plain, has_said, groups_left, open_group, Plan, left_now, Act, state}
 use Rattle.vss_model.proofs.CutLog.{is_cut_made, SoundLog, sound}
 use Rattle.vss_model.proofs.AtCut.{release_not}
 use Rattle.vss_model.proofs.Spoken.{HoldsFirst, held_first}

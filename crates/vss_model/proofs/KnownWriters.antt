@@ -1,26 +1,14 @@
 -- The writers whose metadata the session has do not change once they are gathered, and only they are asked to take part.
 use Rattle.std.proofs.Common.{◌≡◌, ℕ, ◌+◌, zero, suc, List, [], ◌∷◌, Option, Some, None, refl, Bool, true, false, ap, sym, ◌∙◌, subst, arith}
 use Rattle.std.specs.Prelude.{slice_get}
-use Rattle.std.proofs.lemmas.Grind.{common_steps}
-use Rattle.vss_names.specs.declared.order.Order.{Order}
-use Rattle.vss_names.specs.declared.order.Order.TheVariants.{Identify, PrepareBackup, BackupComplete}
-use Rattle.vss_names.specs.declared.level.Level.{Level}
-use Rattle.vss_names.specs.declared.vss_result.VssResult.{VssResult}
+use Rattle.vss_model.proofs.Terms.{nat_tests, common_steps, Order, Identify, PrepareBackup, BackupComplete, Level, VssResult, Said, WriterRow, row_after, Group}
+use Rattle.vss_model.proofs.Terms.{Orders, Kind, Gather, Prepare, Snapshot, Complete, Place, Member, Agenda, Open, plain, places, order_of, is_orders}
+use Rattle.vss_model.proofs.Terms.{members_of, waited_for, with_group, left_from, groups_left, open_place, is_among, order_now, waits_now, Course, rows_where}
+use Rattle.vss_model.proofs.Terms.{is_member, posted, failed as course_failed, settled_if, settled, told, answered as course_answered, worked}
+use Rattle.vss_model.proofs.Terms.{stepped as course_stepped, timed as course_timed, is_identify_failure, has_failed_identify, IsAsked, IsKeptFrom}
+use Rattle.vss_model.proofs.Terms.{from_answered, from_timed, IsKeptInCourse, course_answered as kept_answered, course_timed as kept_timed}
 use Rattle.vss_names.specs.declared.writer_state.WriterState.{WriterState}
 use Rattle.vss_names.specs.declared.writer_state.WriterState.TheVariants as state
-use Rattle.writer_state.specs.declared.said.Said.{Said}
-use Rattle.writer_state.specs.declared.writer_row.WriterRow.{WriterRow}
-use Rattle.writer_state.specs.WriterRow.{row_after, row_aborted}
-use Rattle.set_agenda.specs.declared.group.Group.{Group}
-use Rattle.set_agenda.specs.declared.group.Group.TheVariants.{Orders}
-use Rattle.set_agenda.specs.declared.kind.Kind.{Kind}
-use Rattle.set_agenda.specs.declared.kind.Kind.TheVariants.{Gather, Prepare, Snapshot, Complete}
-use Rattle.set_agenda.specs.declared.place.Place.{Place}
-use Rattle.set_agenda.specs.declared.member.Member.{Member}
-use Rattle.set_agenda.specs.Agenda.{Agenda, Open, plain, places, order_of, is_orders, members_of, waited_for, with_group, left_from, groups_left, open_place, is_among, order_now, waits_now}
-use Rattle.set_agenda.specs.Course.{Course, rows_where, is_member, posted, failed as course_failed, settled_if, settled_in, settled, told, answered as course_answered, worked, stepped as course_stepped, timed as course_timed}
-use Rattle.vss_model.specs.Sessions.{is_identify_failure, has_failed_identify}
-use Rattle.set_agenda.proofs.CourseRule.{IsAsked, IsKeptFrom, from_answered, from_timed, IsKeptInCourse, course_answered as kept_answered, course_timed as kept_timed}
 use Rattle.vss_model.proofs.CourseCalls.{now_orders}
 use Rattle.vss_model.proofs.Spoken.{waits_members, among_filter, among_members}
 
@@ -32,9 +20,6 @@ is_unfit rows w = has_failed_identify (slice_get rows w)
 -- the same writers have failed at Identify
 abbrev pub AsFit : List WriterRow → List WriterRow → Type 0
 AsFit rows new = (w : ℕ) → is_unfit new w ≡ is_unfit rows w
-
-pub as_fit : (rows mid new : List WriterRow) → AsFit rows mid → AsFit mid new → AsFit rows new
-as_fit rows mid new h g w = g w ∙ h w
 
 fit_where : (f : WriterRow → WriterRow) (test : ℕ → Bool) (k : ℕ) (rows : List WriterRow) (w : ℕ) → ((r : WriterRow) → test (k + w) ≡ true → is_identify_failure (f r).state ≡ has_failed_identify (slice_get rows w))
     → is_unfit (rows_where f test k rows) w ≡ is_unfit rows w
@@ -51,9 +36,6 @@ fit_each f same test k [] zero = refl
 fit_each f same test k [] (suc w) = refl
 fit_each f same test k (r ∷ rows) zero = grind (arith, common_steps)
 fit_each f same test k (r ∷ rows) (suc w) = fit_each f same test (k + 1) rows w
-
-row_fit_aborted : (r : WriterRow) → is_identify_failure (row_aborted r).state ≡ is_identify_failure r.state
-row_fit_aborted r = grind arith
 
 -- an order but Identify
 abbrev pub is_later : Order → Bool
@@ -115,7 +97,7 @@ pub keeps_same : (c : Course) → Keeps c c
 keeps_same c = record { disabled = refl; members = refl; fit = λ w. refl }
 
 pub keeps_then : (c d e : Course) → Keeps c d → Keeps d e → Keeps c e
-keeps_then c d e h g = record { disabled = g.disabled ∙ h.disabled; members = g.members ∙ h.members; fit = as_fit c.rows d.rows e.rows h.fit g.fit }
+keeps_then c d e h g = grind (arith, common_steps, nat_tests)
 
 keeps_told : (o : Order) (said : Said) (now : ℕ) (ws : List ℕ) (c : Course) → is_later o ≡ true → ((w : ℕ) → is_among w ws ≡ true → is_unfit c.rows w ≡ false) → Keeps c (told o said now ws c)
 unfolding told
@@ -129,14 +111,11 @@ keeps_told o said now ws c e fit = record {
 
 pub keeps_failed : (why : VssResult) (c : Course) → Keeps c (course_failed why c)
 unfolding course_failed
-keeps_failed why c = record { disabled = refl; members = refl; fit = fit_each row_aborted row_fit_aborted (is_member c.members) 0 c.rows }
-
-keeps_settled_in : (a : Option Agenda) (c : Course) → Keeps c (settled_in a c)
-keeps_settled_in a c = grind arith
+keeps_failed why c = grind (arith, common_steps, nat_tests, fit_each)
 
 pub keeps_settled : (c : Course) → Keeps c (settled c)
 unfolding settled
-keeps_settled c = keeps_settled_in c.agenda c
+keeps_settled c = grind (arith, common_steps, nat_tests)
 
 pub keeps_posted : (before c d : Course) → Keeps c d → Keeps c (posted before d)
 unfolding posted

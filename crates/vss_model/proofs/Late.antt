@@ -1,21 +1,13 @@
 -- A call that lets time go by fails the set only where something takes too long, in the words of the causes.
 use Rattle.std.proofs.Common.{◌≡◌, ℕ, List, [], ◌∷◌, Option, Some, None, refl, Bool, true, false, min, fold, filter, sym, ◌∙◌, subst, arith}
-use Rattle.std.specs.Prelude.{◌&&◌, ◌||◌, not, if◌then◌else◌, slice_get}
-use Rattle.std.specs.List.{list_any}
-use Rattle.std.proofs.lemmas.Bool.{and_from, or_right}
-use Rattle.std.proofs.lemmas.Grind.{common_steps}
-use Rattle.vss_names.specs.declared.order.Order.{Order}
-use Rattle.writer_state.specs.declared.writer_row.WriterRow.{WriterRow}
-use Rattle.tick_limits.specs.Time.{answer_limit, hold_limit, default_freeze, is_spent}
-use Rattle.set_agenda.specs.declared.group.Group.{Group}
-use Rattle.set_agenda.specs.declared.limit.Limit.{Limit}
+use Rattle.std.specs.Prelude.{◌&&◌, ◌||◌, if◌then◌else◌, slice_get}
+use Rattle.vss_model.proofs.Terms.{list_any, and_from, or_right, common_steps, Order, WriterRow, answer_limit, hold_limit, default_freeze, is_spent, Group}
+use Rattle.vss_model.proofs.Terms.{Limit, Member, Agenda, Entry, Open, left, order_now, order_of, last_time, opened_at, freeze_opened_at, is_hold, first_time}
+use Rattle.vss_model.proofs.Terms.{first_hold, hold_runs, freeze_runs, answer_runs, runs_if, hold_running, running_at, running_limits, spent_of, Course}
+use Rattle.vss_model.proofs.Terms.{limit_of, freeze_limit, fails_set, has_passed, last_of, holds_volumes, is_hold_step, held_too_long, freezes_writers}
+use Rattle.vss_model.proofs.Terms.{prepares_snapshot, frozen_too_long, is_elsewhere, unanswered_too_long, is_late_at, is_late_in, IsSpentHere, spent_here}
 use Rattle.set_agenda.specs.declared.limit.Limit.TheVariants.{Hold as HoldLimit, Freeze as FreezeLimit, Answer as AnswerLimit}
-use Rattle.set_agenda.specs.declared.member.Member.{Member}
-use Rattle.set_agenda.specs.Agenda.{Agenda, Entry, Open, left, order_now, order_of}
-use Rattle.set_agenda.specs.Limits.{Running, last_time, opened_at, is_prepare_snapshot, freeze_opened_at, is_hold, first_time, first_hold, hold_runs, freeze_runs, answer_runs, runs_if, hold_running, running_at, running_limits, spent_of}
-use Rattle.set_agenda.specs.Course.{Course, limit_of, freeze_limit, fails_set}
-use Rattle.vss_model.specs.Causes.{has_passed, last_of, holds_volumes, is_hold_step, held_too_long, freezes_writers, prepares_snapshot, frozen_too_long, prepares_writers, is_elsewhere, unanswered_too_long, is_late_at, is_late_in}
-use Rattle.set_agenda.proofs.SpentLimits.{IsSpentHere, spent_here}
+use Rattle.set_agenda.specs.Limits.{Running}
 use Rattle.vss_model.proofs.ByEvent.{some_same}
 
 -- ## tables
@@ -29,13 +21,6 @@ same_hold_step g = grind arith
 pub same_freeze : (g : Group) → freeze_runs g ≡ freezes_writers g
 same_freeze g = grind arith
 
-pub same_prepare : (g : Group) → is_prepare_snapshot g ≡ prepares_snapshot g
-same_prepare g = grind arith
-
--- where the answer limit runs and its loss fails the set, consent is asked for
-consent : (g : Group) → answer_runs g ≡ true → fails_set (order_of g) ≡ true → prepares_writers g ≡ true
-consent g e f = grind arith
-
 -- ## since when
 
 last_time_is : (test : Entry → Bool) (t : ℕ) (log : List Entry) → last_time t (filter test log) ≡ fold (λ t (e : Entry). if test e then e.time else t) t log
@@ -46,14 +31,11 @@ last_time_is test t (e ∷ log) = let ih = last_time_is test e.time log in let i
 fold_along : (f g : Entry → Bool) → ((e : Entry) → f e ≡ g e) → (t : ℕ) (log : List Entry) → fold (λ t (e : Entry). if f e then e.time else t) t log ≡ fold (λ t (e : Entry). if g e then e.time else t) t log
 fold_along f g same t log = grind arith
 
-not_is : (b : Bool) → not b ≡ (if b then false else true)
-not_is b = grind arith
-
 pub freeze_since : (a : Agenda) → freeze_opened_at a ≡ last_of (λ e. prepares_snapshot e.place.group) a
-freeze_since a = grind (arith, last_time_is, fold_along, same_prepare)
+freeze_since a = grind (arith, common_steps, last_time_is, fold_along)
 
 pub answer_since : (a : Agenda) (o : Open) → opened_at a o ≡ last_of (is_elsewhere o.place) a
-answer_since a o = grind (arith, last_time_is, fold_along, not_is)
+answer_since a o = grind (arith, common_steps, last_time_is, fold_along)
 
 spent_passed : (now since limit : ℕ) → is_spent now since limit ≡ true → has_passed limit since now ≡ true
 spent_passed now since limit e = grind arith
@@ -108,7 +90,7 @@ freeze_late now g c a l e =
 -- ## unanswered
 
 answer_late : (now : ℕ) (a : Agenda) (o : Open) (l : Running) → spent_of now (runs_if (answer_runs o.place.group) AnswerLimit (opened_at a o) answer_limit) ≡ Some l → fails_set (order_of o.place.group) ≡ true → unanswered_too_long now o.place a ≡ true
-answer_late now a o l e f = grind (arith, spent_one, and_from, consent, answer_since, spent_passed)
+answer_late now a o l e f = grind (arith, common_steps, spent_one, and_from, answer_since, spent_passed)
 
 -- ## the spent limit
 

@@ -1,4 +1,6 @@
+pub mod Terms
 pub mod Appending
+pub mod StateForm
 pub mod GoingOn
 pub mod ByEvent
 pub mod Rule

@@ -2,19 +2,10 @@
 -- members say that are waited for at the open place.
 use Rattle.std.proofs.Common.{◌≡◌, ℕ, List, [], Option, Some, None, Bool, true, false, sym, subst, arith}
 use Rattle.std.specs.Prelude.{◌&&◌, not}
-use Rattle.vss_names.specs.declared.set_outcome.SetOutcome.{SetOutcome}
-use Rattle.writer_state.specs.declared.said.Said.{Said}
-use Rattle.writer_state.specs.WriterState.{is_ok}
-use Rattle.set_agenda.specs.declared.group.Group.{Group}
-use Rattle.set_agenda.specs.declared.kind.Kind.{Kind}
-use Rattle.set_agenda.specs.declared.kind.Kind.TheVariants.{Gather, Prepare, Snapshot, Complete}
-use Rattle.set_agenda.specs.declared.member.Member.{Member}
-use Rattle.set_agenda.specs.Agenda.{Agenda, left, groups_left, open_place, is_freeze, is_among, waits_now, is_working, all_say}
-use Rattle.set_agenda.specs.Course.{Course, posted, failed as course_failed, settled_in, settled, begun, released}
-use Rattle.scenario.specs.Plan.{Plan}
-use Rattle.vss_model.specs.State.{State, start}
-use Rattle.vss_model.specs.Steps.{step_made}
-use Rattle.vss_model.specs.Acts.{Act, state}
+use Rattle.vss_model.proofs.Terms.{nat_tests, common_steps, SetOutcome, Said, is_ok, Group, Kind, Gather, Prepare, Snapshot, Complete, Member, Agenda, left}
+use Rattle.vss_model.proofs.Terms.{groups_left, open_place, is_freeze, is_among, waits_now, is_working, all_say, Course, posted, failed as course_failed}
+use Rattle.vss_model.proofs.Terms.{settled, begun, released, Plan, State, start, Act, state}
+use Rattle.vss_model.proofs.StateForm.{step_made}
 use Rattle.vss_model.proofs.Changes.{CourseCall, Answers, Steps, Times, Gathers, Prepares, Snapshots, Completes, Disables, called, IsDue}
 use Rattle.vss_model.proofs.CourseFacts.{of_calls}
 use Rattle.vss_model.proofs.CourseCalls.{Call, call_answered, call_stepped, call_timed}
@@ -38,12 +29,9 @@ module _ (P : Agenda → Type 0) (k : IsKeptInLog P) where
   on_call : (writers : Bool) (a : Option Agenda) (o : SetOutcome) (b : Option Agenda) (p : SetOutcome) → Call writers a o b p → Running P a → Running P b
   on_call writers a o b p c h = grind arith
 
-  on_begun_in : (a : Option Agenda) (c : Course) → Running P c.agenda → Running P (settled_in a c).agenda
-  on_begun_in a c h = grind arith
-
   on_begun : (j : Kind) (ms : List Member) (vs : List ℕ) (now : ℕ) (c : Course) → Running P (begun j ms vs now c).agenda
   unfolding begun posted settled
-  on_begun j ms vs now c = on_begun_in (Some (unspoken j ms vs now)) (record c { agenda = Some (unspoken j ms vs now) }) (k.begins j ms vs now)
+  on_begun j ms vs now c = grind (arith, common_steps, nat_tests)
 
   -- ## every act
 

@@ -1,26 +1,15 @@
 -- What a session names are selectable components of writers that it knows.
 use Rattle.std.proofs.Common.{◌≡◌, ℕ, List, Option, Some, None, refl, Bool, true, false, ap, sym, arith}
 use Rattle.std.specs.Prelude.{◌&&◌, slice_get}
-use Rattle.std.specs.List.{list_all}
-use Rattle.writer_meta.specs.Metadata.{Meta}
-use Rattle.component_doc.specs.Selection.{Pair, Names, naming, naming_of, naming_found, naming_if, has_pair, with_pair, found_in, found_of}
-use Rattle.component_doc.specs.Over.{names_selectable, is_ascending}
+use Rattle.vss_model.proofs.Terms.{nat_tests, common_steps, list_all, Meta, Pair, Names, naming, naming_of, naming_found, naming_if, has_pair, with_pair}
+use Rattle.vss_model.proofs.Terms.{found_in, found_of, names_selectable, is_ascending, Plan, State, known_metas}
 use Rattle.component_doc.proofs.Added.{over-more}
-use Rattle.scenario.specs.Plan.{Plan, WriterPlan}
-use Rattle.vss_model.specs.State.{State}
-use Rattle.vss_model.specs.Sessions.{is_known, known_from, known_metas}
 use Rattle.vss_model.proofs.KnownWriters.{AsFit}
 
 -- ## who is known
 
-same_known : (s : Plan) (st x : State) → x.course.disabled ≡ st.course.disabled → AsFit st.course.rows x.course.rows → (w : ℕ) → is_known s x w ≡ is_known s st w
-same_known s st x e f w = grind arith
-
-known_along : (s : Plan) (st x : State) → ((w : ℕ) → is_known s x w ≡ is_known s st w) → (w : ℕ) (ps : List WriterPlan) → known_from s x w ps ≡ known_from s st w ps
-known_along s st x same w ps = grind arith
-
 pub known_same : (s : Plan) (st x : State) → x.course.disabled ≡ st.course.disabled → AsFit st.course.rows x.course.rows → known_metas s x ≡ known_metas s st
-known_same s st x e f = known_along s st x (same_known s st x e f) 0 s.writers
+known_same s st x e f = grind (arith, common_steps, nat_tests)
 
 -- ## what is named
 

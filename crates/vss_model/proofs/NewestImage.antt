@@ -1,13 +1,8 @@
 -- The image of the set in progress is the newest of its volume: no set has a greater number, and images rise in set.
 use Rattle.std.proofs.Common.{◌≡◌, ℕ, ◌+◌, ◌==◌, ◌<◌, ◌≤◌, suc, List, [], ◌∷◌, Some, refl, Bool, true, length, ap, ◌∙◌, arith}
 use Rattle.std.specs.Prelude.{◌&&◌, ◌||◌, not, if◌then◌else◌, slice_get}
-use Rattle.std.proofs.lemmas.Bool.{eqb-true}
-use Rattle.std.proofs.lemmas.Grind.{common_steps}
-use Rattle.write_history.specs.History.{Image, History, point_in, AreLater, AreInTime}
-use Rattle.scenario.specs.Plan.{Plan}
-use Rattle.vss_model.specs.State.{SetRow, in_progress, history_in, history_of}
-use Rattle.vss_model.specs.Acts.{Act, state}
-use Rattle.vss_model.specs.Facts.{NumberedFrom, has_failed, is_live, AreLive, AllLive, IsNewest}
+use Rattle.vss_model.proofs.Terms.{eqb-true, common_steps, Image, History, point_in, AreLater, AreInTime, Plan, SetRow, in_progress, history_in, history_of}
+use Rattle.vss_model.proofs.Terms.{Act, state, NumberedFrom, has_failed, is_live, AreLive, AllLive, IsNewest}
 use Rattle.vss_model.proofs.OrderlyActs.{orderly}
 use Rattle.vss_model.proofs.OneCut.{newest_number, images_in_time}
 use Rattle.vss_model.proofs.Failures.{live_at}

@@ -1,18 +1,10 @@
 -- An image stands only on a volume that its set had at its cut.
 use Rattle.std.proofs.Common.{◌≡◌, ℕ, ◌+◌, ◌==◌, zero, suc, List, [], ◌∷◌, ◌++◌, ◌⊎◌, Option, Some, None, refl, Bool, true, false, map, ap, sym, ◌∙◌, subst, inl, inr, arith}
 use Rattle.std.specs.Prelude.{is_some, ◌&&◌, if◌then◌else◌}
-use Rattle.std.proofs.lemmas.List.{append_assoc}
-use Rattle.std.proofs.lemmas.Bool.{and_from, eqb-true}
-use Rattle.std.proofs.lemmas.Grind.{common_steps}
-use Rattle.write_history.specs.History.{Image, History, fresh, point_in}
-use Rattle.set_agenda.specs.Agenda.{open_group, is_among}
-use Rattle.scenario.specs.Plan.{Plan}
-use Rattle.scenario.specs.declared.volume_row.VolumeRow.{VolumeRow}
-use Rattle.vss_model.specs.State.{SetRow, in_progress, left_now, history_of, has_image}
-use Rattle.vss_model.specs.Images.{is_in_set}
-use Rattle.vss_model.specs.Steps.{cut_if as image_cut_if, cut_each}
-use Rattle.vss_model.specs.Acts.{Act, after, state}
-use Rattle.vss_model.specs.Cut.{is_provider, is_cut_group, is_set, is_cut_of, cut_if, cut}
+use Rattle.vss_model.proofs.Terms.{append_assoc, and_from, eqb-true, common_steps, Image, History, fresh, point_in, open_group, is_among, Plan, VolumeRow}
+use Rattle.vss_model.proofs.Terms.{SetRow, in_progress, left_now, history_of, has_image, is_in_set, cut_each, Act, after, state}
+use Rattle.vss_model.proofs.Terms.{is_provider, is_cut_group, is_set, is_cut_of, cut}
+use Rattle.vss_model.specs.Cut.{cut_if}
 use Rattle.vss_model.proofs.Appending.{state-append}
 use Rattle.vss_model.proofs.Orderly.{true_not_false}
 use Rattle.vss_model.proofs.AtCut.{CutsNow, cuts}
@@ -38,12 +30,9 @@ last_image (i ∷ images) m n p e = by_head (i.set == n) e (last_image images m 
 abbrev WasOrIs : ℕ → List ℕ → ℕ → ℕ → Bool → Type 0
 WasOrIs m vs n v was = (was ≡ true) ⊎ (((m == n) && is_among v vs) ≡ true)
 
-cut_here : (b : Bool) (m : ℕ) (vs : List ℕ) (n v : ℕ) (x : History) → is_among v vs ≡ b → has_image n (image_cut_if b m x) ≡ true → WasOrIs m vs n v (has_image n x)
-cut_here b m vs n v x e f = grind (arith, last_image, and_from)
-
 cut_there : (m : ℕ) (vs : List ℕ) (n u v : ℕ) (hs : List History) → has_image n (at (cut_each m vs u hs) v) ≡ true → WasOrIs m vs n (u + v) (has_image n (at hs v))
 cut_there m vs n u v [] e = inl e
-cut_there m vs n u zero (x ∷ hs) e = grind (arith, common_steps, cut_here)
+cut_there m vs n u zero (x ∷ hs) e = grind (arith, common_steps, last_image, and_from)
 cut_there m vs n u (suc v) (x ∷ hs) e = let ih = cut_there m vs n (u + 1) v hs e in grind (arith, common_steps)
 
 -- ## each act

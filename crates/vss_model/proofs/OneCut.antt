@@ -2,34 +2,17 @@
 use Rattle.std.proofs.Common.{◌≡◌, ℕ, ◌+◌, ◌==◌, ◌<◌, ◌≤◌, zero, suc, List, [], ◌∷◌, ◌++◌, Option, Some, None, refl, Bool, true, false, map, length, take, ap}
 use Rattle.std.proofs.Common.{sym, ◌∙◌, subst, find, fold, inl, inr, arith}
 use Rattle.std.specs.Prelude.{option_map, ◌⊎◌, ◌&&◌, if◌then◌else◌, slice_get}
-use Rattle.std.proofs.lemmas.List.Folds.{list_any-append}
-use Rattle.std.proofs.Math.Seq.{take-append_seam}
-use Rattle.std.proofs.lemmas.List.{length_push, length-map}
-use Rattle.std.proofs.lemmas.Bool.{eqb-true, ltb-true}
-use Rattle.std.proofs.lemmas.Grind.{common_steps}
-use Rattle.vss_names.specs.declared.set_outcome.SetOutcome.{SetOutcome}
-use Rattle.vss_names.specs.declared.set_outcome.SetOutcome.TheVariants.{Running}
-use Rattle.set_agenda.specs.declared.member.Member.{Member}
-use Rattle.writer_state.specs.declared.said.Said.TheVariants.{Ok}
-use Rattle.write_history.specs.declared.mark.Mark.{Mark}
-use Rattle.write_history.specs.History.{Write, Image, History, content, fresh, point_in, dropped, written, reverted, AreLater, AreInTime}
-use Rattle.set_agenda.specs.declared.kind.Kind.{Kind}
-use Rattle.set_agenda.specs.declared.kind.Kind.TheVariants.{Snapshot}
-use Rattle.set_agenda.specs.Agenda.{Agenda, left, is_working, groups_left, open_group, next_member, all_say, is_snapshot, is_among}
-use Rattle.set_agenda.specs.Course.{Course, posted, settled_in, settled, worked, failed as course_failed, stepped as course_stepped, released}
-use Rattle.requestor.specs.Session.{Session}
-use Rattle.scenario.specs.Plan.{Plan}
-use Rattle.scenario.specs.declared.volume_row.VolumeRow.{VolumeRow}
-use Rattle.vss_model.specs.State.{State, SetRow, row_changed, Kept, start, is_running, in_progress, row_of, history_in, history_of, left_now, kept_of}
-use Rattle.vss_model.specs.Ending.{row_settled, runs}
-use Rattle.vss_model.specs.Sessions.{with_volume}
-use Rattle.vss_model.specs.Steps.{cut_if as history_cut_if, cut_each, row_cut, cut_set, later}
-use Rattle.vss_model.specs.Acts.{Act, after, state}
-use Rattle.vss_model.specs.Facts.{NumberedFrom, OverButNewest, IsOfSession, IsOrderly}
-use Rattle.vss_model.specs.Cut.{is_provider, is_cut_group, is_set, is_cut_of, cut_if, cut_from, cut, IsShownAt, IsCutAt}
-use Rattle.vss_model.specs.declared.event.Event.{Event}
-use Rattle.vss_model.specs.Changes.{Change, Passes, SessionIs, Names, StartsSet, AddsVolume, IsCutAt as CutsAt, CourseIs, Settles, Writes, Cuts, Reverts}
-use Rattle.vss_model.specs.Changes.{RevertsPart, DropsSet, Drops, Evicts, apply}
+use Rattle.vss_model.proofs.Terms.{nat_tests, list_any-append, take-append_seam, length_push, length-map, eqb-true, ltb-true, common_steps, SetOutcome, Member}
+use Rattle.vss_model.proofs.Terms.{Mark, Write, Image, History, content, fresh, point_in, dropped, written, reverted, AreLater, AreInTime, Snapshot, Agenda}
+use Rattle.vss_model.proofs.Terms.{left, is_working, open_group, is_snapshot, is_among, Course, posted, settled, worked, failed as course_failed}
+use Rattle.vss_model.proofs.Terms.{stepped as course_stepped, released, Plan, VolumeRow, State, SetRow, row_changed, Kept, start, is_running, in_progress}
+use Rattle.vss_model.proofs.Terms.{row_of, history_in, history_of, left_now, kept_of, row_settled, runs, with_volume, cut_if as history_cut_if, cut_each}
+use Rattle.vss_model.proofs.Terms.{row_cut, Act, after, state, NumberedFrom, OverButNewest, IsOrderly, is_provider, is_cut_group, is_set, is_cut_of, cut_from}
+use Rattle.vss_model.proofs.Terms.{cut, IsShownAt, Event, Change, Passes, SessionIs, StartsSet, AddsVolume, IsCutAt as CutsAt, CourseIs, Settles, Writes, Cuts}
+use Rattle.vss_model.proofs.Terms.{Reverts, RevertsPart, DropsSet, Drops, Evicts, apply}
+use Rattle.vss_model.proofs.StateForm.{cut_set, later}
+use Rattle.vss_model.specs.Cut.{cut_if, IsCutAt}
+use Rattle.vss_model.specs.Changes.{Names}
 use Rattle.vss_model.proofs.Changes.{CourseCall, Answers, Steps, Times, Gathers, Prepares, Snapshots, Completes, Disables, Fails, Releases, called, IsDue}
 use Rattle.vss_model.proofs.Changes.{Stands, Comes, is_end, by_changes}
 use Rattle.vss_model.proofs.FewerImages.{is_cut, no_cut}
@@ -45,9 +28,6 @@ use Rattle.vss_model.proofs.CutHistory.{Above, Shown, no_greater, Known, writes_
 
 -- ## facts of the set in progress
 
-pub plain_kind : (k : Kind) (o p : SetOutcome) → is_running p ≡ true → EndsIn k o p → is_snapshot k ≡ false
-plain_kind k o p e h = grind arith
-
 -- the agenda of the set is over, and its row does not say so yet
 abbrev pub IsOver : Option Agenda → SetOutcome → Type 0
 IsOver a o = (a ≡ None) × (is_running o ≡ false)
@@ -61,21 +41,16 @@ pub record IsSetFact (R : Option Agenda → Option SetRow → Type 0) (U : Optio
   pub goes : (a b : Agenda) (ms ns : List Member) (o p : SetOutcome) (found : Option SetRow) → IsSameAgenda a b ms ns o p → R (Some a) found → R (Some b) found
   pub rows : (f : SetRow → SetRow) → ((r : SetRow) → (f r).number ≡ r.number) → (o : Option SetRow) → U o → U (option_map f o)
 
-pub no_set_over : (q : Option Session) (o : SetOutcome) (found : Option SetRow) → IsOfSession q o found → is_running o ≡ false → found ≡ None
-no_set_over q o found h e = grind arith
-
 module _ (R : Option Agenda → Option SetRow → Type 0) (U : Option SetRow → Type 0) (k : IsSetFact R U) where
   abbrev pub HoldsIn : Option SetRow → Option Agenda → SetOutcome → Type 0
   HoldsIn found a o = R a found ⊎ IsOver a o
 
   -- between acts
   pub at_rest : (x : State) → IsOrderly x → HoldsIn (in_progress x) x.course.agenda x.course.outcome → R x.course.agenda (in_progress x)
-  at_rest x i (inl h) = h
-  at_rest x i (inr h) = subst (R x.course.agenda) (sym (no_set_over x.session x.course.outcome (in_progress x) i.session h.1)) (k.none x.course.agenda)
+  at_rest x i x2 = grind (arith, common_steps, nat_tests)
 
   ends_in : (found : Option SetRow) (a : Agenda) (o p : SetOutcome) (b : Bool) → is_running p ≡ b → EndsIn a.kind o p → R (Some a) found → HoldsIn found None p
-  ends_in found a o p true e m h = inl (k.any None found (k.plain a found (plain_kind a.kind o p e m) h))
-  ends_in found a o p false e m h = inr (refl, e)
+  ends_in found a o p b e m h = grind (arith, common_steps, nat_tests)
 
   pub moves_in : (found : Option SetRow) (a : Option Agenda) (ms : List Member) (o : SetOutcome) (b : Option Agenda) (ns : List Member) (p : SetOutcome)
       → Moves a o b p → Follows a ms o b ns p → HoldsIn found a o → HoldsIn found b p
@@ -110,16 +85,9 @@ module _ (R : Option Agenda → Option SetRow → Type 0) (U : Option SetRow →
     on_called (Fails why) i j h = inr (refl, refl)
     on_called Releases i j h = inl (subst (R None) (sym j.0) (k.none None))
 
-  over_rows : (a : Option Agenda) (o : SetOutcome) (rows : List SetRow) → U (find (λ r. is_running r.result) rows)
-      → R a (find (λ r. is_running r.result) (map (row_settled o) rows))
-  over_rows a Running rows h = k.any a _
-      (subst U (sym (find-settled_running rows)) (k.rows (λ r. record r { result = Running }) (λ r. refl) (find (λ r. is_running r.result) rows) h))
-  over_rows a o rows h = subst (R a) (sym (find-settled_over o refl rows)) (k.none a)
-
   pub on_settled : (x : State) (o : SetOutcome) → (x.course.agenda ≡ None) × (o ≡ x.course.outcome) → HoldsIn (in_progress x) x.course.agenda x.course.outcome
       → R x.course.agenda (in_progress (apply x (Settles o)))
-  on_settled x o i (inl h) = over_rows x.course.agenda o x.sets (k.quiet (in_progress x) (subst (λ a. R a (in_progress x)) i.0 h))
-  on_settled x o i (inr h) = subst (R x.course.agenda) (sym (find-settled_over o (ap is_running i.1 ∙ h.1) x.sets)) (k.none x.course.agenda)
+  on_settled x o i x3 = grind (arith, common_steps, nat_tests, find-settled_over, find-settled_running)
 
 -- ## the fact
 
@@ -141,12 +109,8 @@ Uncut k (Some r) = k r.number ≡ None
 made_in_none : (o : Option (List History)) → o ≡ None → (a : Option Agenda) → MadeIn o a
 made_in_none o e a = grind arith
 
-made_goes : (o : Option (List History)) (a b : Agenda) (ms ns : List Member) (p q : SetOutcome) → IsSameAgenda a b ms ns p q → MadeIn o (Some a)
-    → MadeIn o (Some b)
-made_goes o a b ms ns p q e h = grind arith
-
 cut_fact : (k : Known) → IsSetFact (Progress k) (Uncut k)
-cut_fact k = grind (arith, made_in_none, made_goes)
+cut_fact k = grind (arith, common_steps, made_in_none)
 
 record IsCut (k : Known) (x : State) : Type 0 where
   shown : AllShown k 0 x.volumes
@@ -320,23 +284,17 @@ shown_cut_each k l n vs all v (x ∷ hs) none more e at h =
 
 -- ## what the Cut step says
 
-cut_says : (now : ℕ) (a : Agenda) → a.kind ≡ Snapshot → IsAtCut a → is_cut_made (all_say Ok now (next_member (groups_left a) ∷ []) a).log ≡ true
-cut_says now a e c = grind (arith, cut_is_open, list_any-append)
-
 abbrev SaysCut : Option Agenda → Type 0
 SaysCut None = Unit {0}
 SaysCut (Some b) = (is_snapshot b.kind ≡ true) × (is_cut_made b.log ≡ true)
 
 says_worked : (now : ℕ) (c : Course) (a : Agenda) → c.agenda ≡ Some a → a.kind ≡ Snapshot → IsAtCut a → SaysCut (worked now c).agenda
 unfolding worked
-says_worked now c a e f g = grind (arith, cut_says)
-
-says_settled_in : (a : Option Agenda) (c : Course) → SaysCut c.agenda → SaysCut (settled_in a c).agenda
-says_settled_in a c h = grind arith
+says_worked now c a e f g = grind (arith, common_steps, cut_is_open, list_any-append)
 
 says_settled : (c : Course) → SaysCut c.agenda → SaysCut (settled c).agenda
 unfolding settled
-says_settled c h = says_settled_in c.agenda c h
+says_settled c h = grind (arith, common_steps, nat_tests)
 
 says_posted : (before c : Course) → SaysCut c.agenda → SaysCut (posted before c).agenda
 unfolding posted
@@ -351,14 +309,11 @@ record IsNewest (k : Known) (st : State) (r : SetRow) : Type 0 where
   number : r.number ≡ length st.sets
   none : (m : ℕ) → r.number ≤ m → k m ≡ None
 
-made_not : (o : Option (List History)) (a : Agenda) → is_cut_made a.log ≡ false → MadeIn o (Some a) → o ≡ None
-made_not o a e h = grind arith
-
 progress_now : (k : Known) (st : State) → IsOrderly st → IsCut k st → Progress k st.course.agenda (in_progress st)
 progress_now k st o h = at_rest (Progress k) (Uncut k) (cut_fact k) st o h.progress
 
 newest : (k : Known) (st : State) (r : SetRow) → CutsNow st → in_progress st ≡ Some r → IsOrderly st → IsCut k st → IsNewest k st r
-newest k st r c e o h = grind (arith, newest_number, made_not, ltb-true, progress_now)
+newest k st r c e o h = grind (arith, common_steps, newest_number, ltb-true, progress_now)
 
 pub all_three : (a b c : Bool) → a ≡ true → b ≡ true → c ≡ true → (a && b && c) ≡ true
 all_three a b c e f g = grind arith
@@ -372,16 +327,9 @@ known_stays k st act m hs e = ap (λ o. or_else o (now_if (is_cut_of m st act) s
 later_unknown : (k : Known) (st : State) (act : Act) (r : SetRow) (m : ℕ) → in_progress st ≡ Some r → r.number < m → k m ≡ None → next_known k st act m ≡ None
 later_unknown k st act r m e l f = grind arith
 
-ends_snapshot : (k : Kind) (o p : SetOutcome) → k ≡ Snapshot → EndsIn k o p → is_running p ≡ false
-ends_snapshot k o p e m = grind arith
-
-says_made : (k : Known) (b : Agenda) (found : Option SetRow) → SaysCut (Some b) → Progress k (Some b) found
-says_made k b found h = grind arith
-
 cut_holds : (k : Known) (a : Agenda) (o : SetOutcome) (b : Option Agenda) (p : SetOutcome) (found : Option SetRow) → a.kind ≡ Snapshot → Moves (Some a) o b p
     → SaysCut b → HoldsIn (Progress k) (Uncut k) (cut_fact k) found b p
-cut_holds k a o None p found e m h = inr (refl, ends_snapshot a.kind o p e m)
-cut_holds k a o (Some b) p found e m h = inl (says_made k b found h)
+cut_holds k a o b p found e m h = grind (arith, common_steps, nat_tests)
 
 on_cut : (k : Known) (act : Act) (st : State) (r : SetRow) → is_provider act.event ≡ true → is_cut_group (open_group (left_now st)) ≡ true → CutsNow st
     → in_progress st ≡ Some r → IsOrderly st → IsCut k st
@@ -547,10 +495,6 @@ images_in_time s acts v = in_time_at (known_from s nothing_known (start s) acts)
 pub all_taken : (ws : List Write) → take (length ws) ws ≡ ws
 all_taken ws = ap (take (length ws)) (append_none ws) ∙ take-append_seam ws []
 
-reads_at : (s : Plan) (v p b : ℕ) (ws : List Write) (o : Option (List Act)) (before : List Act) → o ≡ Some before → IsShownAt s v p ws o
-    → content ws p b ≡ content (history_of (state s before) v).writes (length (history_of (state s before) v).writes) b
-reads_at s v p b ws o before e h = grind (arith, all_taken)
-
 pub image_reads : (s : Plan) (acts before : List Act) (n v p b : ℕ) → point_in n (history_of (state s acts) v).images ≡ Some p → cut s n acts ≡ Some before
     → content (history_of (state s acts) v).writes p b ≡ content (history_of (state s before) v).writes (length (history_of (state s before) v).writes) b
-image_reads s acts before n v p b e f = reads_at s v p b (history_of (state s acts) v).writes (cut s n acts) before f (image_shown s acts n v p e)
+image_reads s acts before n v p b e f = grind (arith, common_steps, nat_tests, image_shown, all_taken)

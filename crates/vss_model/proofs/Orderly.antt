@@ -1,14 +1,9 @@
 -- The facts that every act keeps together.
 use Rattle.std.proofs.Common.{◌≡◌, ℕ, ◌+◌, ◌==◌, zero, suc, List, [], ◌∷◌, ◌++◌, Option, Some, None, refl, Bool, true, false, map, filter, ◌∙◌, find, length, arith}
 use Rattle.std.specs.Prelude.{option_map, ◌&&◌, ◌||◌, not, if◌then◌else◌}
-use Rattle.std.proofs.lemmas.Grind.{common_steps}
-use Rattle.vss_names.specs.declared.set_outcome.SetOutcome.{SetOutcome}
-use Rattle.vss_names.specs.declared.set_outcome.SetOutcome.TheVariants.{Running}
-use Rattle.write_history.specs.History.{Image, History, dropped, without_set}
-use Rattle.set_agenda.specs.Course.{change_at}
-use Rattle.vss_model.specs.State.{SetRow, is_running}
-use Rattle.vss_model.specs.Ending.{row_settled, images_dropped}
-use Rattle.vss_model.specs.Facts.{NumberedFrom, OverButNewest, has_failed, is_live, AreLive, AllLive}
+use Rattle.vss_model.proofs.Terms.{common_steps, SetOutcome, Running, Image, History, dropped, without_set, change_at, SetRow, is_running, row_settled}
+use Rattle.vss_model.proofs.Terms.{NumberedFrom, OverButNewest, has_failed, is_live, AreLive, AllLive}
+use Rattle.vss_model.proofs.StateForm.{images_dropped}
 
 pub true_not_false : (b : Bool) → b ≡ true → b ≡ false → ⊥
 true_not_false b e f = grind arith
@@ -88,16 +83,10 @@ pub newest-settled : (p : SetOutcome) (rows : List SetRow) → OverButNewest row
 newest-settled p (r ∷ q ∷ rows) h = (over_stays (is_running r.result) p r refl h.0, newest-settled p (q ∷ rows) h.1)
 newest-settled p _ h = tt
 
-settled_over : (b : Bool) (p : SetOutcome) (r : SetRow) → is_running p ≡ false → is_running r.result ≡ b → is_running (if b then record r { result = p } else r).result ≡ false
-settled_over b p r e f = grind arith
-
-none_if : (c : Bool) (x : SetRow) (other : Option SetRow) → c ≡ false → other ≡ None → (if c then Some x else other) ≡ None
-none_if c x other e h = grind arith
-
 -- where the outcome is no longer Running, no set is in progress any more
 pub find-settled_over : (p : SetOutcome) → is_running p ≡ false → (rows : List SetRow) → find (λ r. is_running r.result) (map (row_settled p) rows) ≡ None
 find-settled_over p e [] = refl
-find-settled_over p e (r ∷ rows) = let ih = find-settled_over p e rows in grind (arith, common_steps, none_if, settled_over)
+find-settled_over p e (r ∷ rows) = let ih = find-settled_over p e rows in grind (arith, common_steps)
 
 abbrev with_result : SetOutcome → SetRow → SetRow
 with_result p r = record r { result = p }
@@ -149,13 +138,10 @@ live-fails p (r ∷ rows) n o other h = live_fails_at (is_running r.result) p r 
 pub other_way : (a b : ℕ) → (a == b) ≡ false → (b == a) ≡ false
 other_way a b f = grind arith
 
-kept_where_other : (b : Bool) (new : List SetRow) (i : Image) (images : List Image) → (b ≡ false → is_live new i.set ≡ true) → AreLive new images → AreLive new (if not b then i ∷ images else images)
-kept_where_other b new i images head tail = grind arith
-
 are_live_without : (p : SetOutcome) (rows : List SetRow) (q : SetRow) → OverButNewest rows → find (λ r. is_running r.result) rows ≡ Some q → (images : List Image) → AreLive rows images → AreLive (map (row_settled p) rows) (without_set q.number images)
 are_live_without p rows q o e [] h = tt
 are_live_without p rows q o e (i ∷ images) h =
-    let ih = are_live_without p rows q o e images h.1 in grind (arith, common_steps, kept_where_other, live-fails, other_way)
+    let ih = are_live_without p rows q o e images h.1 in grind (arith, common_steps, live-fails, other_way)
 
 all_live_without : (p : SetOutcome) (rows : List SetRow) (q : SetRow) → OverButNewest rows → find (λ r. is_running r.result) rows ≡ Some q → (hs : List History) → AllLive rows hs → AllLive (map (row_settled p) rows) (map (dropped q.number) hs)
 all_live_without p rows q o e [] h = tt

@@ -1,44 +1,20 @@
 -- Every act keeps the state orderly.
 use Rattle.std.proofs.Common.{◌≡◌, ℕ, ◌+◌, ◌==◌, List, [], ◌∷◌, Option, Some, None, refl, Bool, true, false, map, ap, sym, subst, find, fold, inl, inr, length}
 use Rattle.std.specs.Prelude.{option_map, is_some, ◌⊎◌, not, if◌then◌else◌}
-use Rattle.std.proofs.lemmas.Bool.{and_parts}
 use Rattle.std.proofs.Common.{arith}
-use Rattle.std.proofs.lemmas.Grind.{common_steps}
-use Rattle.vss_names.specs.declared.context.Context.{Context}
-use Rattle.vss_names.specs.declared.context.Context.TheVariants.{Backup, AppRollback, NasRollback}
-use Rattle.vss_names.specs.declared.order.Order.{Order}
-use Rattle.vss_names.specs.declared.vss_result.VssResult.{VssResult}
-use Rattle.vss_names.specs.declared.vss_result.VssResult.TheVariants.{AsyncCancelled}
-use Rattle.vss_names.specs.declared.set_outcome.SetOutcome.{SetOutcome}
-use Rattle.vss_names.specs.declared.set_outcome.SetOutcome.TheVariants.{Running, Complete as CompleteSet, Failed as FailedSet}
-use Rattle.writer_state.specs.declared.said.Said.{Said}
-use Rattle.writer_state.specs.declared.said.Said.TheVariants.{Ok}
-use Rattle.write_history.specs.declared.mark.Mark.{Mark}
-use Rattle.write_history.specs.History.{Write, History, fresh, dropped, after_set}
-use Rattle.write_history.specs.Slots.{Placed, gone_up_to}
-use Rattle.set_agenda.specs.declared.group.Group.{Group}
-use Rattle.set_agenda.specs.declared.group.Group.TheVariants.{Cut}
-use Rattle.set_agenda.specs.declared.kind.Kind.{Kind}
-use Rattle.set_agenda.specs.declared.kind.Kind.TheVariants.{Gather, Prepare, Snapshot, Complete}
-use Rattle.set_agenda.specs.declared.member.Member.{Member}
-use Rattle.set_agenda.specs.Agenda.{Agenda, groups_left, left, all_say, is_done, is_working, is_among, open_group, next_member}
-use Rattle.set_agenda.specs.Course.{Course, posted, failed as course_failed, outcome_after, settled_if, settled, begun, told, answered as course_answered, worked, stepped as course_stepped, timed as course_timed, released}
-use Rattle.requestor.specs.declared.stage.Stage.{Stage}
-use Rattle.requestor.specs.declared.stage.Stage.TheVariants.{Opened, Gathered, Started, Prepared, Done}
+use Rattle.vss_model.proofs.Terms.{and_parts, common_steps, Context, Backup, AppRollback, NasRollback, Order, VssResult, AsyncCancelled, SetOutcome, Running}
+use Rattle.vss_model.proofs.Terms.{Failed as FailedSet, Said, Ok, Mark, History, fresh, dropped, after_set, Placed, gone_up_to, Group, Cut, Kind, Gather}
+use Rattle.vss_model.proofs.Terms.{Prepare, Snapshot, Complete, Member, Agenda, groups_left, left, all_say, is_done, is_working, is_among, open_group}
+use Rattle.vss_model.proofs.Terms.{next_member, Course, posted, failed as course_failed, outcome_after, settled_if, settled, begun, told}
+use Rattle.vss_model.proofs.Terms.{answered as course_answered, worked, stepped as course_stepped, timed as course_timed, released, Stage, Opened, Gathered}
+use Rattle.vss_model.proofs.Terms.{Started, Prepared, Done, Session, has_writers, makes_set, stage_after, agenda_ended, set_failed, is_stage, VolumeRow, Plan}
+use Rattle.vss_model.proofs.Terms.{State, SetRow, start, is_running, in_progress, row_changed, left_now, Ending, NothingEnds, AgendaEnds, SetFails}
+use Rattle.vss_model.proofs.Terms.{ending, row_settled, runs, has_no_volume, new_set, with_volume, with_cut, row_cut, cut_if, cut_each, is_flush}
+use Rattle.vss_model.proofs.Terms.{is_failed_step, Act, after, state, LetsGo, is_early, IsOfStage, IsOfSession, snapshot_stage, WaitsFor, IsAgendaOf}
+use Rattle.vss_model.proofs.Terms.{has_failed, is_live, AreLive, AllLive, IsOrderly, IsKeptFrom, from_answered, from_stepped, from_timed}
+use Rattle.vss_names.specs.declared.set_outcome.SetOutcome.TheVariants.{Complete as CompleteSet}
 use Rattle.requestor.specs.declared.session_call.SessionCall.TheVariants as call
-use Rattle.requestor.specs.Session.{Session, has_writers, makes_set, stage_after, agenda_ended, set_failed}
-use Rattle.requestor.specs.Check.{is_stage}
-use Rattle.scenario.specs.declared.volume_row.VolumeRow.{VolumeRow}
-use Rattle.scenario.specs.Plan.{Plan}
-use Rattle.vss_model.specs.State.{State, SetRow, Kept, start, is_running, in_progress, row_changed, left_now}
-use Rattle.vss_model.specs.Ending.{Ending, NothingEnds, AgendaEnds, SetFails, ending, row_settled, concluded, followed, runs, failed_in, failed}
-use Rattle.vss_model.specs.Images.{put, reverted_as}
-use Rattle.vss_model.specs.Sessions.{begin_in, has_no_volume, start_set, new_set, with_volume, change_set, images_released, closed}
-use Rattle.vss_model.specs.Steps.{answered, with_cut, row_cut, cut_if, cut_each, cut_set, step_made, is_flush, is_failed_step, stepped_as, stepped, ticked, later}
-use Rattle.vss_model.specs.Acts.{Act, after, state}
-use Rattle.vss_model.specs.Laws.{IsKeptByChanges, IsKeptByWrites, LetsGo}
-use Rattle.vss_model.specs.Facts.{is_early, IsOfStage, IsOfSession, snapshot_stage, WaitsFor, IsAgendaOf, has_failed, is_live, AreLive, AllLive, IsOrderly}
-use Rattle.set_agenda.proofs.CourseRule.{IsKeptFrom, from_answered, from_stepped, from_timed}
+use Rattle.vss_model.proofs.StateForm.{concluded, followed, failed_in, failed, begin_in, start_set, change_set, images_released, closed, answered, cut_set, step_made, stepped_as, stepped, ticked, later, IsKeptByChanges, IsKeptByWrites}
 use Rattle.vss_model.proofs.Rows.{none_runs}
 use Rattle.vss_model.proofs.Rule.{on_after}
 use Rattle.vss_model.proofs.Orderly.{IsSameRow, numbered-map, newest-map, find-map, live-map, all_live_along, live-filter, live-append, all_live-map}
@@ -233,9 +209,6 @@ pub ends_settle : (o p : SetOutcome) (st : State)
     → in_progress (concluded (ending o p true None) st) ≡ find (λ r. is_running r.result) (map (row_settled st.course.outcome) st.sets)
 ends_settle o p st = grind arith
 
-agenda_along : (a b : Agenda) (q : Option Session) → b.kind ≡ a.kind → IsAgendaOf (Some a) q → IsAgendaOf (Some b) q
-agenda_along a b q e h = grind arith
-
 ends_session : (q : Option Session) (a : Agenda) (c : Course) (st : State) → st.session ≡ q → IsAgendaOf (Some a) q → EndsIn a.kind st.course.outcome c.outcome
     → c.agenda ≡ None → IsOrderly st → IsOrderly (concluded (ending st.course.outcome c.outcome true None) (record st { course = c }))
 ends_session None a c st e w i f h = absurd w
@@ -244,7 +217,7 @@ ends_session (Some q) a c st e w i f h = ends_well a.kind c st q i e w f h
 orderly_at : (a b : Option Agenda) (c : Course) (st : State) → st.course.agenda ≡ a → c.agenda ≡ b → Moves a st.course.outcome b c.outcome → IsOrderly st → IsOrderly (concluded (ending st.course.outcome c.outcome (is_some a) b) (record st { course = c }))
 orderly_at None None c st e f m h = grind (arith, common_steps, ending_idle, goes_on, agenda_none)
 orderly_at None (Some b) c st e f m h = absurd m
-orderly_at (Some a) (Some b) c st e f m h = grind (arith, common_steps, goes_on, ending_on, agenda_along)
+orderly_at (Some a) (Some b) c st e f m h = grind (arith, common_steps, goes_on, ending_on)
 orderly_at (Some a) None c st e f m h =
     let A : Option Agenda → Type 0 = λ x. IsAgendaOf x st.session in
     ends_session st.session a c st refl (subst A e h.agenda) m f h
@@ -286,12 +259,9 @@ start_allowed w s e = grind arith
 
 -- ## steps
 
-same_row_of_number : (q : Option Session) (o : SetOutcome) (f : SetRow → SetRow) → ((r : SetRow) → (f r).number ≡ r.number) → (found : Option SetRow) → IsOfSession q o found → IsOfSession q o (option_map f found)
-same_row_of_number q o f same found h = grind arith
-
 -- rows that keep number, running and failed
 rows_same : (f : SetRow → SetRow) → IsSameRow f → (hs : List History) (st : State) → AllLive st.sets hs → IsOrderly st → IsOrderly (record st { sets = map f st.sets; volumes = hs })
-rows_same f same hs st live h = grind (arith, numbered-map, newest-map, find-map, same_row_of_number, all_live_along, live-map)
+rows_same f same hs st live h = grind (arith, common_steps, numbered-map, newest-map, find-map, all_live_along, live-map)
 
 pub same_changed : (n : ℕ) (f : SetRow → SetRow) → ((r : SetRow) → (f r).number ≡ r.number) → ((r : SetRow) → (f r).result ≡ r.result) → IsSameRow (row_changed n f)
 same_changed n f number result = grind arith
@@ -369,12 +339,6 @@ live_gone m rows (p ∷ ps) (x ∷ hs) h = (gone_if p.within m rows x h.0, live_
 live_dropped : (n : ℕ) (rows : List SetRow) (x : History) → AreLive rows x.images → AreLive rows (dropped n x).images
 live_dropped n rows x h = live-filter (λ i. not (i.set == n)) rows x.images h
 
-on_puts : (v : ℕ) (w : Write) (mark : Mark) (x : State) → IsOrderly x → IsOrderly (put v w mark x)
-on_puts v w mark x h = grind (arith, volumes_orderly, all_live-change_at)
-
-on_reverts : (s : Plan) (v : ℕ) (k : Kept) (mark : Mark) (st : State) → IsOrderly st → IsOrderly (reverted_as s v k mark st).1
-on_reverts s v k mark st h = grind (arith, volumes_orderly, all_live-change_at, live-filter)
-
 on_begins : (lane : ℕ) (all : Bool) (c : Option Context) (st : State) → st.session ≡ None → IsOrderly st → IsOrderly (begin_in lane all c st).1
 on_begins lane all c st e h = grind arith
 
@@ -436,7 +400,7 @@ kept_by_changes = record {
 }
 
 pub kept_by_writes : (st : State) → IsKeptByWrites IsOrderly st
-kept_by_writes st = grind (arith, on_puts, on_reverts)
+kept_by_writes st = grind (arith, common_steps, volumes_orderly, all_live-change_at, live-filter)
 
 orderly_fold : (s : Plan) (st : State) (acts : List Act) → IsOrderly st → IsOrderly (fold (after s) st acts)
 orderly_fold s st [] h = h

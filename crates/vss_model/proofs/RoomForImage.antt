@@ -1,27 +1,15 @@
 -- Each volume of the set in progress has room for its image: before the Cut step for one more, and after it that is among the most that
 -- there can be.
-use Rattle.std.proofs.Common.{◌≡◌, ℕ, zero, suc, ◌+◌, ◌==◌, ◌<◌, ◌≤◌, List, [], ◌∷◌, ◌++◌, ◌⊎◌, Option, Some, None, refl, Bool, true, false, map, length, ap, sym, ◌∙◌, subst, find, arith}
+use Rattle.std.proofs.Common.{◌≡◌, ℕ, zero, suc, ◌+◌, ◌==◌, ◌<◌, ◌≤◌, List, [], ◌∷◌, ◌++◌, Option, Some, None, refl, Bool, true, false, map, length, ap, sym, ◌∙◌, subst, find, arith}
 use Rattle.std.specs.Prelude.{option_map, ◌&&◌, if◌then◌else◌, nat_le}
-use Rattle.std.proofs.lemmas.List.{append_assoc, length-append}
-use Rattle.std.proofs.lemmas.List.Folds.{list_any-append}
-use Rattle.std.proofs.lemmas.Bool.{eq-eqb, eqb-true}
-use Rattle.std.proofs.lemmas.Grind.{common_steps}
-use Rattle.vss_names.specs.declared.set_outcome.SetOutcome.{SetOutcome}
-use Rattle.vss_names.specs.declared.vss_result.VssResult.{VssResult}
-use Rattle.write_history.specs.declared.mark.Mark.{Mark}
-use Rattle.write_history.specs.History.{History}
-use Rattle.set_agenda.specs.Agenda.{open_group, is_among}
-use Rattle.scenario.specs.Plan.{Plan}
-use Rattle.vss_model.specs.State.{State, SetRow, is_running, in_progress, left_now, history_of}
-use Rattle.vss_model.specs.Ending.{row_settled}
-use Rattle.vss_model.specs.Sessions.{most_images, with_volume, change_set, add_refusal}
-use Rattle.vss_model.specs.Steps.{cut_if as image_cut_if, cut_each, row_cut, cut_set}
-use Rattle.vss_model.specs.Acts.{Act, after, state}
-use Rattle.vss_model.specs.declared.event.Event.{Event}
-use Rattle.vss_model.specs.Cut.{is_provider, is_cut_group, is_set, is_cut_of, cut_if, cut}
+use Rattle.vss_model.proofs.Terms.{nat_tests, append_assoc, length-append, list_any-append, eq-eqb, eqb-true, common_steps, SetOutcome, VssResult, Mark}
+use Rattle.vss_model.proofs.Terms.{History, open_group, is_among, Plan, State, SetRow, is_running, in_progress, left_now, history_of, row_settled, most_images}
+use Rattle.vss_model.proofs.Terms.{with_volume, cut_if as image_cut_if, cut_each, row_cut, Act, after, state, Event, is_provider, is_cut_group, is_set}
+use Rattle.vss_model.proofs.Terms.{is_cut_of, cut, Change, apply}
+use Rattle.vss_model.proofs.StateForm.{cut_set}
+use Rattle.vss_model.specs.Cut.{cut_if}
 use Rattle.vss_model.proofs.Appending.{state-append}
 use Rattle.vss_model.specs.Changes as change
-use Rattle.vss_model.specs.Changes.{Change, apply}
 use Rattle.vss_model.proofs.Changes.{IsAdd, Comes, by_changes}
 use Rattle.vss_model.proofs.Orderly.{find-map, find-settled_over, find-settled_running}
 use Rattle.vss_model.proofs.HeldOfSet.{find-row_cut, volumes-row_cut_if}
@@ -52,11 +40,8 @@ HasRoom k st = Roomy k st.volumes (in_progress st)
 roomy_fewer : (k : Cuts) (hs ks : List History) (o : Option SetRow) → FewerIn hs ks → Roomy k hs o → Roomy k ks o
 roomy_fewer k hs ks o f h = grind arith
 
-roomy_same : (k : Cuts) (hs : List History) (f : SetRow → SetRow) → ((r : SetRow) → (f r).number ≡ r.number) → ((r : SetRow) → (f r).volumes ≡ r.volumes) → (o : Option SetRow) → Roomy k hs o → Roomy k hs (option_map f o)
-roomy_same k hs f number volumes o h = grind arith
-
 roomy_settled : (k : Cuts) (hs : List History) (p : SetOutcome) (rows : List SetRow) → Roomy k hs (find (λ r. is_running r.result) rows) → Roomy k hs (find (λ r. is_running r.result) (map (row_settled p) rows))
-roomy_settled k hs p rows h = grind (arith, find-settled_running, roomy_same, find-settled_over)
+roomy_settled k hs p rows h = grind (arith, common_steps, find-settled_running, find-settled_over)
 
 -- a new set has no volume yet
 roomy_append : (k : Cuts) (hs : List History) (rows : List SetRow) (r : SetRow) → r.volumes ≡ [] → Roomy k hs (find (λ q. is_running q.result) rows) → Roomy k hs (find (λ q. is_running q.result) (rows ++ r ∷ []))
@@ -75,20 +60,14 @@ room_if a b c x y z e = grind arith
 pub fewer_than : (most n : ℕ) → nat_le most n ≡ false → n < most
 fewer_than most n e = grind arith
 
-added : (vs : List ℕ) (v u : ℕ) → is_among u (vs ++ v ∷ []) ≡ true → (is_among u vs ≡ true) ⊎ (v ≡ u)
-added vs v u e = grind (arith, list_any-append, eqb-true)
-
 roomy_added : (b : Bool) (k : Cuts) (hs : List History) (v : ℕ) (r : SetRow) → length (at hs v).images < most_images → Roomy k hs (Some r) → Roomy k hs (Some (if b then with_volume v r else r))
-roomy_added b k hs v r room h = grind (arith, added)
+roomy_added b k hs v r room h = grind (arith, common_steps, list_any-append, eqb-true)
 
 -- ## each change
 
 module _ (k : Cuts) where
-  added_room : (v : ℕ) (r : SetRow) (st : State) → in_progress st ≡ Some r → add_refusal v r st ≡ None → HasRoom k st → HasRoom k (change_set r.number (with_volume v) st)
-  added_room v r st e f h = grind (arith, fewer_than, room_if, find-map, changed_result, roomy_added)
-
   on_add : (st x : State) (n v : ℕ) → IsAdd st x n v → HasRoom k x → HasRoom k (apply x (change.AddsVolume n v))
-  on_add st x n v i h = grind (arith, common_steps, added_room)
+  on_add st x n v i h = grind (arith, common_steps, fewer_than, room_if, find-map, changed_result, roomy_added)
 
   on_fewer : (c : Change) (x : State) → is_cut c ≡ false → Roomy k x.volumes (in_progress x) → Roomy k (apply x c).volumes (in_progress x)
   on_fewer c x e h = roomy_fewer k x.volumes (apply x c).volumes (in_progress x) (fewer_apply c x e) h
@@ -112,11 +91,8 @@ more_known k l same hs o h = grind arith
 abbrev known : Plan → List Act → Cuts
 known s acts n = cut s n acts
 
-uncut_before : (o p : Option (List Act)) → or_cut o p ≡ None → o ≡ None
-uncut_before o p e = grind arith
-
 fewer_known : (s : Plan) (past : List Act) (act : Act) (n : ℕ) → known s (past ++ act ∷ []) n ≡ None → known s past n ≡ None
-fewer_known s past act n e = uncut_before (cut s n past) _ (sym (cut-append s n past act) ∙ e)
+fewer_known s past act n e = grind (arith, common_steps, nat_tests, cut-append)
 
 -- the set that is cut now is cut
 cut_known : (o : Option (List Act)) (b : Bool) (past : List Act) → b ≡ true → or_cut o (cut_if b past None) ≡ None → ⊥

@@ -1,17 +1,9 @@
 -- The row of the set in progress: it is the row of its number, and it alone.
 use Rattle.std.proofs.Common.{◌≡◌, ℕ, ◌+◌, ◌==◌, ◌<◌, ◌≤◌, List, [], ◌∷◌, ◌++◌, Option, Some, None, refl, Bool, true, false, map, ap, sym, ◌∙◌, subst, find, length, arith}
 use Rattle.std.specs.Prelude.{option_map, ◌&&◌, ◌||◌, not, is_some, if◌then◌else◌}
-use Rattle.std.specs.List.{list_any}
-use Rattle.std.proofs.lemmas.Bool.{and_left, and_right, or_left, or_parts, or_from, ne_eqb, eq-eqb, cond-true, cond-false}
-use Rattle.std.proofs.lemmas.Grind.{common_steps}
-use Rattle.vss_names.specs.declared.set_outcome.SetOutcome.{SetOutcome}
-use Rattle.vss_model.specs.State.{SetRow, is_running, is_complete}
-use Rattle.vss_model.specs.Ending.{row_settled}
-use Rattle.set_agenda.specs.declared.kind.Kind.{Kind}
-use Rattle.set_agenda.specs.declared.kind.Kind.TheVariants.{Snapshot}
-use Rattle.set_agenda.specs.Agenda.{Agenda, is_snapshot}
-use Rattle.vss_model.specs.Effects.{ended_of}
-use Rattle.vss_model.specs.Facts.{NumberedFrom}
+use Rattle.vss_model.proofs.Terms.{list_any, and_left, and_right, or_left, or_parts, or_from, ne_eqb, eq-eqb, cond-true, cond-false, common_steps, SetOutcome}
+use Rattle.vss_model.proofs.Terms.{SetRow, is_running, row_settled, Kind, Snapshot, Agenda, is_snapshot, ended_of, NumberedFrom}
+use Rattle.vss_model.specs.State.{is_complete}
 use Rattle.vss_model.proofs.ByEvent.{some_same}
 use Rattle.vss_model.proofs.Orderly.{number-settled_if}
 

@@ -1,27 +1,13 @@
 -- The rule of cases: a fact of the state that each named change keeps is kept by every act.
-use Rattle.std.proofs.Common.{◌≡◌, ℕ, ◌==◌, Some, None, Bool, false, arith}
+use Rattle.std.proofs.Common.{◌≡◌, ℕ, ◌==◌, Option, Some, None, Bool, true, false, subst, length, arith}
 use Rattle.std.specs.Prelude.{◌&&◌, if◌then◌else◌}
-use Rattle.vss_names.specs.declared.vss_result.VssResult.{VssResult}
-use Rattle.vss_names.specs.declared.vss_result.VssResult.TheVariants.{AsyncCancelled}
-use Rattle.write_history.specs.declared.mark.Mark.{Mark}
-use Rattle.write_history.specs.History.{Write}
-use Rattle.writer_calls.specs.Script.{said_of}
-use Rattle.scenario.specs.Plan.{Plan}
-use Rattle.vss_model.specs.declared.event.Event.{Event}
-use Rattle.vss_model.specs.declared.event.Event.TheVariants.{Line}
-use Rattle.vss_model.specs.State.{State, Kept, in_progress}
-use Rattle.scenario.specs.Bounds.{is_begin}
-use Rattle.vss_model.specs.Images.{with_room_if, put, write, is_backup, is_in_set, revert_refusal}
-use Rattle.vss_model.specs.Acts.{Act, idle_now, after}
-use Rattle.vss_model.specs.Laws.{IsKeptByChanges, IsKeptByWrites}
-use Rattle.vss_model.proofs.ByEvent.{after_covered}
-
-in_no_set : (backup in_set : Bool) (x y : VssResult) → (if backup then Some x else if in_set then Some y else None) ≡ None → in_set ≡ false
-in_no_set backup in_set x y e = grind arith
-
--- a volume that may be reverted is in no set in progress
-pub no_set_of : (st : State) (v : ℕ) (k : Kept) → revert_refusal v (Some k) st ≡ None → is_in_set v (in_progress st) ≡ false
-no_set_of st v k e = in_no_set (is_backup k.row.context) (is_in_set v (in_progress st)) _ _ e
+use Rattle.vss_model.proofs.Terms.{common_steps, AsyncCancelled, BadState, Mark, Write, said_of, Plan, Event, Line, State, Kept, in_progress, is_begin}
+use Rattle.vss_model.proofs.Terms.{IsKeptByChanges as KeptByChanges, IsKeptByWrites as KeptByWrites, after_changes, goes_on, reverts, has_no_volume}
+use Rattle.vss_model.proofs.Terms.{is_disabled, selected, volumes_of, Course, gathered, prepared, snapshot_begun, completing, takers, Context, Act, idle_now}
+use Rattle.vss_model.proofs.Terms.{after}
+use Rattle.vss_model.proofs.StateForm.{with_room_if, put, write, refused, pending, begin_in, reverted_as, IsKeptByChanges, IsKeptByWrites}
+use Rattle.vss_model.proofs.ByEvent.{no_set_of}
+use Rattle.vss_model.proofs.Changes.{after_covered, answers_are, next_is, passes_are, fails_now, goes_on_own, ends_session}
 
 -- ## a session's beginning
 
@@ -63,3 +49,39 @@ module _ (P : State → Type 0) (k : IsKeptByChanges P) where
     steps = λ mark e. k.steps mark st e h;
     idles = λ mark e. k.ticks (idle_now st) st h;
   }) h act
+
+-- ## the rule, of the changes themselves
+
+module _ (P : State → Type 0) where
+  by_volume : (b : Bool) (c : Course) (st : State) → (b ≡ false → P (after_changes st (goes_on true c st))) → P st → P (if b then refused BadState st else pending c st).1
+  by_volume b c st f h = grind (arith, goes_on_own)
+
+  by_context : KeptByChanges P → (lane : ℕ) (all : Bool) (c : Option Context) (st : State) → st.session ≡ None → P st → P (begin_in lane all c st).1
+  by_context k lane all c st e h = grind arith
+
+  pub of_changes : Plan → KeptByChanges P → IsKeptByChanges P
+  of_changes plan k = record {
+    answers = λ w said st e h. subst P (answers_are w said st) (k.answers w said st e h);
+    steps = λ mark st e h. subst P (next_is mark st) (k.steps mark st e h);
+    ticks = λ n st h. subst P (passes_are n st) (k.ticks n st h);
+    fails = λ why st h. subst P (fails_now why st) (k.fails why st h);
+    gathers = λ s q st g h. subst P (goes_on_own true (gathered (is_disabled s st) st.clock st.course) st) (k.gathers s q st g h);
+    prepares = λ s q st g h. by_volume (has_no_volume (in_progress st)) (prepared (takers (length s.writers) (selected s q st)) st.clock st.course) st (λ e. k.prepares s q st g e h) h;
+    snapshots = λ q st g h. by_volume (has_no_volume (in_progress st)) (snapshot_begun (volumes_of (in_progress st)) st.clock st.course) st (λ e. k.snapshots plan q st g e h) h;
+    completes = λ q st g h. subst P (goes_on_own true (completing st.clock st.course) st) (k.completes plan q st g h);
+    clears = k.clears;
+    deletes_set = k.deletes_set;
+    deletes_image = k.deletes_image;
+    begins = by_context k;
+    names = k.names;
+    disables = λ w q st g h. k.disables plan w q st g h;
+    starts = λ q st g e h. k.starts plan q st g e h;
+    adds = k.adds;
+    ends = λ q st e h. subst P (ends_session plan q st) (k.ends plan q st e h);
+  }
+
+  revert_kept : (s : Plan) (v : ℕ) (k : Kept) (mark : Mark) (st : State) → P (after_changes st (reverts s v (Some k) mark)) → P (reverted_as s v k mark st).1
+  revert_kept s v k mark st h = grind arith
+
+  pub of_writes : (st : State) → KeptByWrites P st → IsKeptByWrites P st
+  of_writes st k = grind (arith, common_steps, revert_kept)

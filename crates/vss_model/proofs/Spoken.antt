@@ -2,20 +2,9 @@
 -- step is made the Hold group is closed.
 use Rattle.std.proofs.Common.{◌≡◌, ℕ, ◌==◌, List, [], ◌∷◌, ◌++◌, Option, None, refl, Bool, true, false, map, filter, sym, ◌∙◌, arith}
 use Rattle.std.specs.Prelude.{◌&&◌, ◌||◌, not, if◌then◌else◌}
-use Rattle.std.proofs.lemmas.List.Folds.{list_any-append}
-use Rattle.std.proofs.lemmas.Bool.{and_parts, or_right}
-use Rattle.vss_names.specs.declared.level.Level.{Level}
-use Rattle.writer_state.specs.declared.said.Said.{Said}
-use Rattle.writer_state.specs.WriterState.{is_ok}
-use Rattle.set_agenda.specs.declared.group.Group.{Group}
-use Rattle.set_agenda.specs.declared.group.Group.TheVariants.{Hold, Cut}
-use Rattle.set_agenda.specs.declared.member.Member.{Member}
-use Rattle.set_agenda.specs.declared.place.Place.{Place}
-use Rattle.set_agenda.specs.Agenda.{Agenda, Entry, Open, plain, places, group_code, level_code, same_place, is_freeze, has_said, has_frozen, members_of, waited_for, with_group, left_from, groups_left, open_group, open_place, is_among, waits_now, at_place, all_say}
-use Rattle.set_agenda.specs.Course.{is_member}
-use Rattle.scenario.specs.Plan.{Plan}
-use Rattle.vss_model.specs.Acts.{Act, state}
-use Rattle.vss_model.specs.Cut.{is_cut_group}
+use Rattle.vss_model.proofs.Terms.{list_any-append, and_parts, or_right, Level, Said, is_ok, Group, Hold, Cut, Member, Place, Agenda, Entry, Open, plain}
+use Rattle.vss_model.proofs.Terms.{places, group_code, level_code, same_place, is_freeze, has_said, has_frozen, members_of, waited_for, with_group, left_from}
+use Rattle.vss_model.proofs.Terms.{groups_left, open_group, open_place, is_among, waits_now, at_place, all_say, is_member, Plan, Act, state, is_cut_group}
 use Rattle.vss_model.proofs.Orderly.{true_not_false}
 use Rattle.vss_model.proofs.LogRule.{IsKeptInLog, Running, in_log}
 use Rattle.vss_model.proofs.CutLog.{is_cut_made, said_stays, either_way}

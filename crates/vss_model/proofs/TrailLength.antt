@@ -1,46 +1,27 @@
 -- Each legal move takes a turn, so a legal trail is short.
-use Rattle.std.proofs.Common.{◌≡◌, ℕ, zero, suc, ◌+◌, ◌*◌, ◌==◌, ◌<◌, ◌≤◌, List, [], ◌∷◌, ◌++◌, Option, Some, None, refl, Bool, true, false, ap, sym, ◌∙◌, subst, map, length, drop, cond, arith}
+use Rattle.std.proofs.Common.{◌≡◌, ℕ, zero, suc, ◌+◌, ◌*◌, ◌<◌, ◌≤◌, List, [], ◌∷◌, ◌++◌, Option, Some, None, refl, Bool, true, false, ap, sym, ◌∙◌, subst, map, length, drop, cond, arith}
 use Rattle.std.specs.Prelude.{not, slice_get, sum}
-use Rattle.std.proofs.lemmas.List.Sums.{sum_by-cons}
-use Rattle.std.proofs.lemmas.Bool.{and_parts, eq-eqb}
-use Rattle.vss_names.specs.declared.vss_result.VssResult.{VssResult}
-use Rattle.vss_names.specs.declared.vss_result.VssResult.TheVariants.{AsyncCancelled}
-use Rattle.write_history.specs.declared.actor.Actor.{Actor}
-use Rattle.write_history.specs.declared.actor.Actor.TheVariants.{Lane, Writer, Advance, Idle}
-use Rattle.write_history.specs.declared.mark.Mark.{Mark}
-use Rattle.write_history.specs.declared.move_item.Move.{Move}
-use Rattle.write_history.specs.History.{Write}
-use Rattle.writer_calls.specs.Script.{said_of}
-use Rattle.writer_state.specs.declared.said.Said.{Said}
-use Rattle.set_agenda.specs.declared.group.Group.{Group}
+use Rattle.vss_model.proofs.Terms.{common_steps, nat_tests, sum_by-cons, and_parts, eq-eqb, VssResult, AsyncCancelled, Actor, Lane, Writer, Advance, Mark, Move}
+use Rattle.vss_model.proofs.Terms.{Write, said_of, Said, Group, is_among, is_working, Course, answered as course_answered, stepped as course_stepped}
+use Rattle.vss_model.proofs.Terms.{timed as course_timed, has_row_failed, Session, Op, Revert, DeleteSet, DeleteImage, Tick, Begin, Disable, Component, Start}
+use Rattle.vss_model.proofs.Terms.{Add, Abort, End, IsPlan, begins_agenda, agenda_lines, Plan, LaneLine, LanePlan, lines_in, lines_of, Event, Line, Provider}
+use Rattle.vss_model.proofs.Terms.{Idle as IdleEvent, State, SetRow, Kept, in_progress, left_now, Ending, ending, runs, takers, Order, is_disabled, selected}
+use Rattle.vss_model.proofs.Terms.{has_no_volume, volumes_of, Act, after, state, enabled, idle_now, order_of_writer, most_moves, Run, begin, is_lane, cursor}
+use Rattle.vss_model.proofs.Terms.{next_line, line_event, script_event, event_of, act_of, after_event, moved, run_from, run, acts, event_enabled, is_legal_move}
+use Rattle.vss_model.proofs.Terms.{is_legal_from, is_legal, waiting, turns_of_agenda, turns_of_line, turns_of_lines, turns_of_lanes, turns_left}
+use Rattle.write_history.specs.declared.actor.Actor.TheVariants.{Idle}
 use Rattle.set_agenda.specs.declared.kind.Kind.TheVariants as kind
-use Rattle.set_agenda.specs.Agenda.{is_among, is_working}
-use Rattle.set_agenda.specs.Course.{Course, answered as course_answered, stepped as course_stepped, timed as course_timed, has_row_failed}
-use Rattle.requestor.specs.Session.{Session}
-use Rattle.scenario.specs.declared.op.Op.{Op}
-use Rattle.scenario.specs.declared.op.Op.TheVariants.{Revert, DeleteSet, DeleteImage, Tick, Begin, Disable, Component, Start, Add, Prepare, Snapshot, Abort, End}
-use Rattle.scenario.specs.Bounds.{IsPlan, begins_agenda, agenda_lines}
-use Rattle.scenario.specs.Plan.{Plan, LaneLine, LanePlan, lines_in, lines_of}
-use Rattle.vss_model.specs.declared.event.Event.{Event}
-use Rattle.vss_model.specs.declared.event.Event.TheVariants.{Line, Provider, Idle as IdleEvent}
-use Rattle.vss_model.specs.State.{State, SetRow, Kept, in_progress, left_now}
-use Rattle.vss_model.specs.Ending.{Ending, ending, concluded, followed, runs, failed_in, failed}
-use Rattle.vss_model.specs.Images.{Replied, with_room_if, put, write, reverted_as}
-use Rattle.component_doc.specs.Selection.{takers}
-use Rattle.vss_names.specs.declared.order.Order.{Order}
-use Rattle.vss_model.specs.Sessions.{is_disabled, selected, has_no_volume, volumes_of, closed, end_session}
-use Rattle.vss_model.specs.Steps.{answered, step_made, stepped_as, stepped, ticked, later}
-use Rattle.vss_model.specs.Acts.{Act, after, state, enabled, idle_now, order_of_writer}
-use Rattle.vss_model.specs.GoesOn.{most_moves}
-use Rattle.vss_model.specs.Trail.{Run, begin, is_lane, cursor, next_line, line_event, script_event, event_of, act_of, after_event, moved, run_from, run, acts, event_enabled, may_move, is_legal_move, is_legal_from, is_legal}
-use Rattle.vss_model.specs.Turns.{waiting, turns_of_agenda, turns_of_line, turns_of_lines, turns_of_lanes, turns_left}
+use Rattle.scenario.specs.declared.op.Op.TheVariants.{Prepare, Snapshot}
+use Rattle.vss_model.proofs.StateForm.{concluded, followed, failed_in, failed, Replied, write, reverted_as, closed, end_session, answered, step_made, stepped_as, stepped, ticked, later}
 use Rattle.vss_model.proofs.Appending.{state-append, run-append, state-run, is_legal-append}
-use Rattle.vss_model.proofs.ByEvent.{Covers, covered, by_if, after_enabled}
+use Rattle.vss_model.proofs.ByEvent.{Covers, covered, by_if}
+use Rattle.vss_model.proofs.Changes.{after_enabled}
 use Rattle.vss_model.proofs.Waiting.{idle_spends}
 use Rattle.vss_model.proofs.GoesOn.{cursor_more, cursor_same}
-use Rattle.vss_model.proofs.Turns.{waits_in, short_filter, less_stepped, less_answered, not_more_timed, less_timed, few_begun, none_released, none_left_failed}
+use Rattle.vss_model.proofs.Turns.{waits_in, short_filter, less_stepped, less_answered, not_more_timed, less_timed, few_begun, none_released, none_failed}
 use Rattle.vss_model.proofs.FewTurns.{FewVolumes, short_members, few_in}
 use Rattle.vss_model.proofs.Rows.{apart_back}
+use Rattle.vss_model.proofs.Headline.{zero_more}
 
 -- ## one act
 
@@ -74,21 +55,15 @@ unfolding ticked
 same_ticked n st = same_followed (runs st) (course_timed (st.clock + n) st.course) (later n st)
 
 not_more_failed : (o : Option SetRow) (why : VssResult) (st : State) → waits_at (failed_in o why st) ≤ waits_at st
-not_more_failed o why st = grind (arith, same_concluded, none_left_failed)
+not_more_failed o why st = grind (arith, same_concluded, none_failed)
 
 none_closed : (q : Session) (st : State) → waits_at (closed q st) ≡ 0
 unfolding closed
 none_closed q st = none_released st.course
 
-few_room : (b : Bool) (x : State) → waits_at (with_room_if b x) ≤ waits_at x
-few_room b x = grind (arith, not_more_failed)
-
-same_put : (v : ℕ) (w : Write) (mark : Mark) (x : State) → waits_at (put v w mark x) ≡ waits_at x
-same_put v w mark x = grind arith
-
 few_write : (s : Plan) (v : ℕ) (w : Write) (mark : Mark) (st : State) → waits_at (write s v w mark st).1 ≤ waits_at st
 unfolding write
-few_write s v w mark st = grind (arith, same_put, few_room)
+few_write s v w mark st = grind (arith, common_steps, not_more_failed)
 
 same_revert : (s : Plan) (v : ℕ) (kept : Kept) (mark : Mark) (st : State) → waits_at (reverted_as s v kept mark st).1 ≡ waits_at st
 same_revert s v kept mark st = grind arith
@@ -164,11 +139,8 @@ lanes_same moves m j (p ∷ ps) h =
     ap (λ n. turns_of_lines (drop n p.lines) + turns_of_lanes (moves ++ m ∷ []) (j + 1) ps) (cursor_same moves m j (h j (omega arith)))
     ∙ ap (λ n. turns_of_lines (drop (cursor moves j) p.lines) + n) (lanes_same moves m (j + 1) ps (λ x g. h x (omega (arith, g))))
 
-other_lane : (x i : ℕ) → i < x → (i == x) ≡ false
-other_lane x i e = grind arith
-
 not_lane : (x i : ℕ) (actor : Actor) → actor ≡ Lane i → i < x → is_lane x actor ≡ false
-not_lane x i actor e h = ap (is_lane x) e ∙ other_lane x i h
+not_lane x i actor e h = grind (arith, common_steps, nat_tests)
 
 is_own_lane : (i : ℕ) (actor : Actor) → actor ≡ Lane i → is_lane i actor ≡ true
 is_own_lane i actor e = ap (is_lane i) e ∙ eq-eqb i i refl
@@ -214,15 +186,8 @@ record IsReached (s : Plan) (r : Run) : Type 0 where
 after_at : (s : Plan) (r : Run) (act : Act) → IsPlan s → IsReached s r → enabled s r.state act.event ≡ true → suc (waits_at (after s r.state act)) ≤ waits_at r.state + turns_of_event act.event
 after_at s r act p h e = grind (arith, after_turns)
 
--- a move's act is enabled
-event_of_legal : (s : Plan) (r : Run) (actor : Actor) → may_move s r actor ≡ true → event_enabled s r (event_of s r actor) ≡ true
-event_of_legal s r actor e = grind arith
-
 no_turns_of_order : (o : Option Order) (s : Plan) (st : State) (w : ℕ) (event : Event) → script_event s st w o ≡ Some event → turns_of_event event ≡ 0
 no_turns_of_order o s st w event e = grind arith
-
-none_more : (n : ℕ) → 0 + n ≡ n
-none_more n = omega arith
 
 -- the lanes have as many turns fewer as the move's event takes
 lanes_of_event : (s : Plan) (r : Run) (m : Move) (actor : Actor) (event : Event) → m.actor ≡ actor → event_of s r actor ≡ Some event → turns_of_lanes r.moves 0 s.lanes ≡ turns_of_event event + turns_of_lanes (r.moves ++ m ∷ []) 0 s.lanes
@@ -231,7 +196,7 @@ lanes_of_event s r m (Lane i) event e f = of_line (next_line s r i) refl f where
   of_line None g h = absurd cc
   of_line (Some l) g h =
       let same : Line i l.op ≡ event = cc in
-      subst (λ x. turns_of_lanes r.moves 0 s.lanes ≡ turns_of_event x + turns_of_lanes (r.moves ++ m ∷ []) 0 s.lanes) same (lanes_less r.moves m 0 s.lanes i l (e ∙ ap Lane (sym (none_more i))) (subst (λ n. slice_get (lines_of s i) (cursor r.moves n) ≡ Some l) (sym (none_more i)) g))
+      subst (λ x. turns_of_lanes r.moves 0 s.lanes ≡ turns_of_event x + turns_of_lanes (r.moves ++ m ∷ []) 0 s.lanes) same (lanes_less r.moves m 0 s.lanes i l (e ∙ ap Lane (sym (zero_more i))) (subst (λ n. slice_get (lines_of s i) (cursor r.moves n) ≡ Some l) (sym (zero_more i)) g))
 lanes_of_event s r m (Writer w) event e f =
     let a = lanes_same r.moves m 0 s.lanes (λ x g. ap (is_lane x) e) in
     let b = no_turns_of_order (order_of_writer r.state w) s r.state w event f in
@@ -257,13 +222,10 @@ event_turns s r m (Some event) p h e f =
     omega (arith, a, b)
 
 move_turns : (s : Plan) (r : Run) (m : Move) → IsPlan s → IsReached s r → is_legal_move s r m ≡ true → suc (turns_left s (moved s r m)) ≤ turns_left s r
-move_turns s r m p h e = grind (arith, event_turns, event_of_legal, and_parts)
-
-reached_run : (s : Plan) (trail : List Move) → IsReached s (run s trail)
-reached_run s trail = record { acts = acts s trail; is = state-run s trail }
+move_turns s r m p h e = grind (arith, common_steps, event_turns, and_parts)
 
 pub one_turn : (s : Plan) (trail : List Move) (m : Move) → IsPlan s → is_legal s (trail ++ m ∷ []) ≡ true → turns_left s (run s (trail ++ m ∷ [])) < turns_left s (run s trail)
-one_turn s trail m p e = grind (arith, and_parts, is_legal-append, move_turns, reached_run, run-append)
+one_turn s trail m p e = grind (arith, common_steps, and_parts, is_legal-append, move_turns, state-run, run-append)
 
 -- ## all moves
 

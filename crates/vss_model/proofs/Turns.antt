@@ -2,26 +2,13 @@
 -- begin an agenda leaves more.
 use Rattle.std.proofs.Common.{◌≡◌, ℕ, ◌+◌, ◌*◌, ◌==◌, ◌<◌, ◌≤◌, List, [], ◌∷◌, Option, Some, None, refl, Bool, true, false, ap, sym, ◌∙◌, subst, filter, length, arith}
 use Rattle.std.specs.Prelude.{is_some, ◌||◌, not, if◌then◌else◌, option_map}
-use Rattle.std.proofs.lemmas.List.{length-map}
-use Rattle.std.proofs.lemmas.Bool.{eqb-true}
-use Rattle.std.proofs.lemmas.Grind.{common_steps}
-use Rattle.vss_names.specs.declared.level.Level.{Level}
-use Rattle.vss_names.specs.declared.level.Level.TheVariants.{System, BackEnd, FrontEnd}
-use Rattle.vss_names.specs.declared.order.Order.{Order}
-use Rattle.vss_names.specs.declared.vss_result.VssResult.{VssResult}
-use Rattle.writer_state.specs.declared.said.Said.{Said}
-use Rattle.writer_state.specs.declared.said.Said.TheVariants.{Ok}
-use Rattle.writer_state.specs.WriterState.{is_ok}
-use Rattle.set_agenda.specs.declared.kind.Kind.{Kind}
-use Rattle.set_agenda.specs.declared.limit.Limit.{Limit}
-use Rattle.set_agenda.specs.declared.member.Member.{Member}
-use Rattle.set_agenda.specs.declared.place.Place.{Place}
-use Rattle.set_agenda.specs.Agenda.{Agenda, Open, all_say, with_group, writers_at, is_at, members_of, waited_for, left_from, places, groups_left, left, order_now, is_among, open_order, is_asking, is_working, next_member, waits_now, is_done, has_said}
-use Rattle.set_agenda.specs.Advance.{advance, others_if, unasked, unasked_if}
-use Rattle.set_agenda.specs.Limits.{Running, spent_of}
-use Rattle.set_agenda.specs.Course.{Course, posted, failed as course_failed, settled_in, settled, begun, told, decided, answered_to, answered as course_answered, worked, stepped as course_stepped, limits_now, lost_to, lost_decided, treated_as, treated, timed as course_timed, released}
+use Rattle.vss_model.proofs.Terms.{nat_tests, length-map, eqb-true, common_steps, System, BackEnd, FrontEnd, Order, VssResult, Said, Ok, is_ok, Kind, Member}
+use Rattle.vss_model.proofs.Terms.{Place, Agenda, Open, all_say, with_group, writers_at, is_at, members_of, left_from, places, groups_left, left, order_now}
+use Rattle.vss_model.proofs.Terms.{is_among, open_order, is_asking, is_working, next_member, waits_now, is_done, advance, unasked, spent_of, Course, posted}
+use Rattle.vss_model.proofs.Terms.{failed as course_failed, settled, begun, told, decided, answered as course_answered, worked, stepped as course_stepped}
+use Rattle.vss_model.proofs.Terms.{limits_now, lost_to, lost_decided, treated, timed as course_timed, released, waiting}
+use Rattle.set_agenda.specs.Limits.{Running}
 use Rattle.set_agenda.proofs.GroupsLeft.{groups_left-all_say}
-use Rattle.vss_model.specs.Turns.{waiting}
 use Rattle.vss_model.proofs.Waiting.{WaitsWell, waits-left_from}
 
 -- ## lists
@@ -51,15 +38,9 @@ filter_lets_go p x (y ∷ ys) e f = at (y == x) refl (filter_lets_go p x ys) whe
 waiting-with_group : (p : Place) (ws : List ℕ) (os : List Open) → waiting (with_group p ws os) ≡ length ws + waiting os
 waiting-with_group p ws os = grind arith
 
-short_others_if : (b : Bool) (whos xs : List ℕ) → length (others_if b whos xs) ≤ length xs
-short_others_if b whos xs = grind (arith, short_filter)
-
 waiting-unasked : (whos : List ℕ) (os : List Open) → waiting (unasked whos os) ≤ waiting os
 waiting-unasked whos [] = omega arith
-waiting-unasked whos (o ∷ os) = let ih = waiting-unasked whos os in grind (arith, common_steps, waiting-with_group, short_others_if)
-
-waiting-unasked_if : (b : Bool) (whos : List ℕ) (os : List Open) → waiting (unasked_if b whos os) ≤ waiting os
-waiting-unasked_if b whos os = grind (arith, waiting-unasked)
+waiting-unasked whos (o ∷ os) = let ih = waiting-unasked whos os in grind (arith, common_steps, waiting-with_group, short_filter)
 
 -- somebody of these is waited for in the open group
 abbrev IsHeard : List ℕ → List Open → Type 0
@@ -67,7 +48,7 @@ IsHeard whos [] = ⊥
 IsHeard whos (o ∷ os) = (x : ℕ) × (is_among x o.waits ≡ true) × (is_among x whos ≡ true)
 
 waiting-advance : (whos : List ℕ) (f : Bool) (os : List Open) → IsHeard whos os → waiting (advance whos f os) < waiting os
-waiting-advance whos f os h = grind (arith, waiting-with_group, filter_lets_go, waiting-unasked_if)
+waiting-advance whos f os h = grind (arith, common_steps, waiting-with_group, filter_lets_go, waiting-unasked)
 
 -- ## courses
 
@@ -81,16 +62,13 @@ same_posted : (before c : Course) → waits_in (posted before c) ≡ waits_in c
 unfolding posted
 same_posted before c = refl
 
-none_failed : (why : VssResult) (c : Course) → waits_in (course_failed why c) ≡ 0
+pub none_failed : (why : VssResult) (c : Course) → waits_in (course_failed why c) ≡ 0
 unfolding course_failed
 none_failed why c = refl
 
-less_settled_in : (o : Option Agenda) (c : Course) → c.agenda ≡ o → waits_in (settled_in o c) ≤ waits_in c
-less_settled_in o c e = grind arith
-
 less_settled : (c : Course) → waits_in (settled c) ≤ waits_in c
 unfolding settled
-less_settled c = less_settled_in c.agenda c refl
+less_settled c = grind (arith, common_steps, nat_tests)
 
 waiting_said : (said : Said) (now : ℕ) (whos : List ℕ) (o : Option Agenda) → IsHeard whos (left o) → waiting (left (option_map (all_say said now whos) o)) < waiting (left o)
 waiting_said said now whos None h = absurd h
@@ -113,25 +91,16 @@ some_waiting whos os h = let e = waiting-advance whos true os h in omega arith
 waits_well : (o : Option Agenda) → WaitsWell (left o)
 waits_well o = grind (arith, waits-left_from)
 
-heard_next : (os : List Open) → is_working os ≡ true → WaitsWell os → IsHeard (next_member os ∷ []) os
-heard_next os e h = grind arith
-
 pub less_stepped : (ok : Bool) (now : ℕ) (c : Course) → is_working (left c.agenda) ≡ true → waits_in (course_stepped ok now c) < waits_in c
-less_stepped ok now c e = grind (arith, same_posted, heard_next, waits_well, less_settled, less_worked, none_failed, some_waiting)
+less_stepped ok now c e = grind (arith, common_steps, same_posted, waits_well, less_settled, less_worked, none_failed, some_waiting)
 
 -- ## an answer
-
-heard_asked : (w : ℕ) (os : List Open) → is_some (open_order os w) ≡ true → IsHeard (w ∷ []) os
-heard_asked w os e = grind arith
 
 less_decided : (fails : Bool) (said : Said) (c d : Course) → waits_in d < waits_in c → waits_in (decided fails said d) < waits_in c
 less_decided fails said c d h = grind (arith, none_failed, less_settled)
 
-less_answered_to : (o : Option Order) (w : ℕ) (said : Said) (now : ℕ) (c : Course) → is_some o ≡ true → IsHeard (w ∷ []) (left c.agenda) → waits_in (answered_to o w said now c) < waits_in c
-less_answered_to o w said now c e h = grind (arith, less_decided, less_told)
-
 pub less_answered : (w : ℕ) (said : Said) (now : ℕ) (c : Course) → is_some (open_order (left c.agenda) w) ≡ true → waits_in (course_answered w said now c) < waits_in c
-less_answered w said now c e = grind (arith, same_posted, less_answered_to, heard_asked)
+less_answered w said now c e = grind (arith, common_steps, same_posted, less_decided, less_told)
 
 -- ## time
 
@@ -148,11 +117,8 @@ has_order os e = grind arith
 less_lost_to : (o : Option Order) (now : ℕ) (c : Course) → is_some o ≡ true → IsHeard (waits_now (left c.agenda)) (left c.agenda) → waits_in (lost_to o now c) < waits_in c
 less_lost_to o now c e h = grind (arith, less_told)
 
-order_in : (os : List Open) → is_some (order_now os) ≡ true → is_done os ≡ false
-order_in os e = grind arith
-
 not_more_lost : (o : Option Order) (now : ℕ) (c : Course) → order_now (left c.agenda) ≡ o → waits_in (lost_to o now c) ≤ waits_in c
-not_more_lost o now c e = grind (arith, less_told, heard_all, order_in, waits_well)
+not_more_lost o now c e = grind (arith, common_steps, less_told, heard_all, waits_well)
 
 less_lost_decided : (b : Bool) (c d : Course) → waits_in d < waits_in c → waits_in (lost_decided b d) < waits_in c
 less_lost_decided b c d h = grind (arith, none_failed, less_settled)
@@ -160,17 +126,12 @@ less_lost_decided b c d h = grind (arith, none_failed, less_settled)
 not_more_decided : (b : Bool) (c d : Course) → waits_in d ≤ waits_in c → waits_in (lost_decided b d) ≤ waits_in c
 not_more_decided b c d h = grind (arith, none_failed, less_settled)
 
-not_more_treated_as : (l : Limit) (now : ℕ) (c : Course) → waits_in (treated_as l now c) ≤ waits_in c
-not_more_treated_as l now c = grind (arith, none_failed, zero-le, not_more_decided, not_more_lost)
-
-less_treated_as : (l : Limit) (now : ℕ) (c : Course) → is_asking (left c.agenda) ≡ true → waits_in (treated_as l now c) < waits_in c
-less_treated_as l now c e = grind (arith, heard_all, asking_not_done, waits_well, none_failed, some_waiting, less_lost_decided, less_lost_to, has_order)
-
 not_more_treated : (l : Option Running) (now : ℕ) (c : Course) → waits_in (treated l now c) ≤ waits_in c
-not_more_treated l now c = grind (arith, not_more_treated_as)
+not_more_treated l now c = grind (arith, common_steps, none_failed, zero-le, not_more_decided, not_more_lost)
 
 less_treated : (l : Option Running) (now : ℕ) (c : Course) → is_some l ≡ true → is_asking (left c.agenda) ≡ true → waits_in (treated l now c) < waits_in c
-less_treated l now c e f = grind (arith, less_treated_as)
+less_treated l now c e f =
+    grind (arith, common_steps, heard_all, asking_not_done, waits_well, none_failed, some_waiting, less_lost_decided, less_lost_to, has_order)
 
 pub not_more_timed : (now : ℕ) (c : Course) → waits_in (course_timed now c) ≤ waits_in c
 not_more_timed now c = grind (arith, same_posted, not_more_treated)
@@ -180,9 +141,6 @@ less_timed now c e f = grind (arith, same_posted, less_treated)
 
 -- ## an agenda as it begins
 
-short_waited : (a : Agenda) (p : Place) → length (waited_for a p) ≤ length (members_of a p.group p.level)
-short_waited a p = short_filter (λ who. not (has_said a.log p who)) (members_of a p.group p.level)
-
 -- how many members the groups at these places have
 abbrev members_at : Agenda → List Place → ℕ
 members_at a [] = 0
@@ -190,10 +148,7 @@ members_at a (p ∷ ps) = length (members_of a p.group p.level) + members_at a p
 
 waiting-left_from : (a : Agenda) (ps : List Place) → waiting (left_from a ps) ≤ members_at a ps
 waiting-left_from a [] = omega arith
-waiting-left_from a (p ∷ ps) = let ih = waiting-left_from a ps in grind (arith, common_steps, waiting-with_group, short_waited)
-
-short_writers : (ms : List Member) (l : Option Level) → length (writers_at ms l) ≤ length ms
-short_writers ms l = grind (arith, length-map, short_filter)
+waiting-left_from a (p ∷ ps) = let ih = waiting-left_from a ps in grind (arith, common_steps, waiting-with_group, short_filter)
 
 -- each member is of one level
 three_levels : (ms : List Member) → length (filter (λ (m : Member). is_at (Some FrontEnd) m.level) ms) + length (filter (λ (m : Member). is_at (Some BackEnd) m.level) ms) + length (filter (λ (m : Member). is_at (Some System) m.level) ms) ≡ length ms
@@ -212,18 +167,12 @@ abbrev most_of : ℕ → ℕ → ℕ
 most_of writers volumes = 4 * writers + 4 * volumes + 3
 
 few_in : (k : Kind) (a : Agenda) → a.kind ≡ k → members_at a (places k) ≤ most_of (length a.members) (length a.volumes)
-few_in k a e = grind (arith, short_writers, levels_of, short_filter)
-
-waiting_begun : (a : Agenda) → waiting (groups_left a) ≤ most_of (length a.members) (length a.volumes)
-waiting_begun a = let h = waiting-left_from a (places a.kind) in let e = few_in a.kind a refl in omega arith
+few_in k a e = grind (arith, common_steps, length-map, short_filter, levels_of)
 
 pub few_begun : (k : Kind) (ms : List Member) (vs : List ℕ) (now : ℕ) (c : Course) → length ms ≤ 64 → length vs ≤ 64 → waits_in (begun k ms vs now c) ≤ 521
 unfolding begun
-few_begun k ms vs now c e f = grind (arith, same_posted, less_settled, waiting_begun)
+few_begun k ms vs now c e f = grind (arith, common_steps, same_posted, less_settled, waiting-left_from, few_in)
 
 pub none_released : (c : Course) → waits_in (released c) ≡ 0
 unfolding released
 none_released c = refl
-
-pub none_left_failed : (why : VssResult) (c : Course) → waits_in (course_failed why c) ≡ 0
-none_left_failed why c = none_failed why c

@@ -1,13 +1,9 @@
 -- What a change of the volumes does to the history at each place, and that most changes leave fewer images.
-use Rattle.std.proofs.Common.{◌≡◌, ℕ, ◌+◌, ◌==◌, ◌≤◌, zero, suc, List, [], ◌∷◌, Some, refl, Bool, true, false, map, filter, length, ap, ◌∙◌, arith}
+use Rattle.std.proofs.Common.{◌≡◌, ℕ, ◌+◌, ◌==◌, ◌≤◌, zero, suc, List, [], ◌∷◌, Some, refl, Bool, true, false, map, filter, length, ap, arith}
 use Rattle.std.specs.Prelude.{is_some, not, if◌then◌else◌, nat_lt, slice_get}
-use Rattle.std.proofs.lemmas.Grind.{common_steps}
-use Rattle.write_history.specs.History.{Write, Image, History, fresh, point_in, dropped, written, reverted, reverted_in_part, after_set, cut as history_cut}
-use Rattle.write_history.specs.Slots.{Placed, gone_up_to}
-use Rattle.set_agenda.specs.Agenda.{is_among}
-use Rattle.set_agenda.specs.Course.{change_at}
-use Rattle.vss_model.specs.State.{history_in, has_image}
-use Rattle.vss_model.specs.Steps.{cut_if, cut_each}
+use Rattle.vss_model.proofs.Terms.{nat_tests, common_steps, Write, Image, History, fresh, point_in, dropped, written, reverted, reverted_in_part, after_set}
+use Rattle.vss_model.proofs.Terms.{Placed, gone_up_to, is_among, change_at, history_in, has_image, cut_if, cut_each}
+use Rattle.write_history.specs.History.{cut as history_cut}
 
 -- ## at each place
 
@@ -67,9 +63,6 @@ pub record Fewer (h k : History) : Type 0 where
 
 pub fewer_same : (h : History) → Fewer h h
 fewer_same h = grind arith
-
-pub fewer_still : (h k l : History) → Fewer h k → Fewer k l → Fewer h l
-fewer_still h k l f g = grind arith
 
 sets_filter : (test : Image → Bool) (images : List Image) (n : ℕ) → is_some (point_in n (filter test images)) ≡ true → is_some (point_in n images) ≡ true
 sets_filter test [] n e = e
@@ -136,7 +129,7 @@ pub fewer_in_same : (hs : List History) → FewerIn hs hs
 fewer_in_same hs = record { each = λ v. fewer_same (at hs v); as_many = refl }
 
 pub fewer_in_over : (hs ks ls : List History) → FewerIn hs ks → FewerIn ks ls → FewerIn hs ls
-fewer_in_over hs ks ls h g = record { each = λ v. fewer_still (at hs v) (at ks v) (at ls v) (h.each v) (g.each v); as_many = g.as_many ∙ h.as_many }
+fewer_in_over hs ks ls h g = grind (arith, common_steps, nat_tests)
 
 pub fewer_in_map : (f : History → History) → ((h : History) → Fewer h (f h)) → (hs : List History) → FewerIn hs (map f hs)
 fewer_in_map f g hs = record { each = each_map Fewer fewer_same f g hs; as_many = as_many_map f hs }

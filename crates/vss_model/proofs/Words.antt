@@ -5,7 +5,8 @@ pub use Rattle.set_agenda.proofs.CourseRule.{IsKeptInCourse, course_answered, co
 pub use Rattle.set_agenda.proofs.WriterSets.{and-true, new-is, or-false}
 pub use Rattle.vss_model.proofs.Appending.{state-append}
 pub use Rattle.vss_model.proofs.AtCut.{IsAtCut, all_said, and_three, cut_is_open, cuts}
-pub use Rattle.vss_model.proofs.ByEvent.{Covers, after_by, by_if, covered}
+pub use Rattle.vss_model.proofs.ByEvent.{Covers, by_if, covered, reply_is}
+pub use Rattle.vss_model.proofs.Changes.{after_by}
 pub use Rattle.vss_model.proofs.Completed.{image_once_cut}
 pub use Rattle.vss_model.proofs.CourseCalls.{Call, IsCall, Settles, call_answered, call_timed}
 pub use Rattle.vss_model.proofs.CutStep.{after_provider}

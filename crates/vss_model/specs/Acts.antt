@@ -1,12 +1,11 @@
--- Acts: what may happen in a state, what an act is answered, and the state after it. An act that is not enabled
--- changes nothing. (This project's own.)
-use Rattle.std.specs.Prelude.{ℕ, Bool, true, false, List, fold, length, nat_lt, ◌&&◌, not, Option, Some, None, is_some, is_none}
+-- Acts: what may happen in a state, what an act is answered, and the state after it: that before it with the changes of
+-- the act. (This project's own.)
+use Rattle.std.specs.Prelude.{ℕ, Bool, true, false, List, [], fold, length, nat_lt, ◌&&◌, not, Option, Some, None, is_some, is_none, if◌then◌else◌}
 use Rattle.vss_names.specs.declared.order.Order.{Order}
 use Rattle.write_history.specs.declared.mark.Mark.{Mark}
 use Rattle.write_history.specs.declared.mark.Mark.TheVariants.{Clean, Fault, FaultAfter}
 use Rattle.write_history.specs.History.{to_restore}
 use Rattle.writer_calls.specs.declared.answer.Answer.{Answer}
-use Rattle.writer_calls.specs.Script.{said_of}
 use Rattle.set_agenda.specs.declared.group.Group.{Group}
 use Rattle.set_agenda.specs.Agenda.{open_group, next_volume, open_order, is_asking, is_working}
 use Rattle.set_agenda.specs.Course.{idle_ticks}
@@ -24,9 +23,11 @@ use Rattle.vss_model.specs.declared.event.Event.TheVariants.{Line, Answer as Ans
 use Rattle.vss_model.specs.Reply.{Reply, Fine, Answered, Stepped, Idled}
 use Rattle.vss_model.specs.State.{State, Kept, start, left_now, is_held, is_frozen, history_of, kept_image}
 use Rattle.vss_model.specs.Ending.{runs}
-use Rattle.vss_model.specs.Images.{Replied, revert_refusal}
-use Rattle.vss_model.specs.Steps.{answered, stepped, ticked, is_flush, is_failed_step}
-use Rattle.vss_model.specs.Lines.{line}
+use Rattle.vss_model.specs.Images.{revert_refusal}
+use Rattle.vss_model.specs.Steps.{is_flush, is_failed_step}
+use Rattle.vss_model.specs.Lines.{line_reply}
+use Rattle.vss_model.specs.Replies.{leaves_all}
+use Rattle.vss_model.specs.Changes.{Change, after_changes, event_changes}
 
 -- an event, and whether a device failed in it
 pub record Act : Type 0 where
@@ -84,23 +85,23 @@ step_reply (Some g) v mark = Stepped g v (is_failed_step (is_flush (Some g)) mar
 abbrev pub idle_now : State → ℕ
 idle_now st = idle_ticks st.clock st.course
 
-abbrev pub happens : Plan → Event → Mark → State → Replied
-happens s (Line lane op) mark st = line s lane op mark st
-happens s (AnswerEvent w answer) mark st = (answer_reply (order_of_writer st w) answer, answered w (said_of answer) st)
-happens s Provider mark st = (step_reply (open_group (left_now st)) (next_volume (left_now st)) mark, stepped mark st)
-happens s Idle mark st = (Idled (idle_now st), ticked (idle_now st) st)
+abbrev pub event_reply : Plan → State → Event → Mark → Reply
+event_reply s st (Line lane op) mark = line_reply s lane op mark st
+event_reply s st (AnswerEvent w answer) mark = answer_reply (order_of_writer st w) answer
+event_reply s st Provider mark = step_reply (open_group (left_now st)) (next_volume (left_now st)) mark
+event_reply s st Idle mark = Idled (idle_now st)
 
 -- what an act is answered
 abbrev pub reply : Plan → State → Act → Reply
-reply s st act = (happens s act.event act.mark st).0
+reply s st act = event_reply s st act.event act.mark
 
-abbrev pub after_if : Bool → Plan → State → Act → State
-after_if true s st act = (happens s act.event act.mark st).1
-after_if false s st act = st
+-- an act that is not enabled, is refused, or only looks has no changes
+abbrev pub changes : Plan → State → Act → List Change
+changes s st act = if enabled s st act.event && not (leaves_all (reply s st act)) then event_changes s st act.event act.mark else []
 
 -- the state after an act
 unfoldable pub after : Plan → State → Act → State
-after s st act = after_if (enabled s st act.event) s st act
+after s st act = after_changes st (changes s st act)
 
 -- the state after a list of acts, the oldest first
 abbrev pub state : Plan → List Act → State

@@ -188,7 +188,7 @@ is_flush_step (Some PostCommit) = false
 
 -- an image of the set in progress goes for a write of block b to volume v
 abbrev pub loses_own_image : Plan → State → ℕ → ℕ → Bool
-loses_own_image s st v b = set_loses_image (in_progress st) st.volumes (cleared s v b st).volumes
+loses_own_image s st v b = set_loses_image (in_progress st) st.volumes (cleared s v b st)
 
 -- the lane owns the session that stands
 abbrev pub owns : Option Session → ℕ → Bool

@@ -1,7 +1,7 @@
 -- The service by its changes: an act makes a short list of them, each to one part of the state, and the state after it is
 -- their fold. An act that is refused, or that only looks, has none. (The calls are those of the SDK's
 -- IVssBackupComponents, and the steps those of its creation of a snapshot set; a kind says where it is this project's own.)
-use Rattle.std.specs.Prelude.{ℕ, ◌+◌, Bool, true, false, List, [], ◌∷◌, ◌++◌, length, fold, map, ◌&&◌, not, if◌then◌else◌, Option, Some, None, option_map}
+use Rattle.std.specs.Prelude.{ℕ, ◌+◌, Bool, true, false, List, [], ◌∷◌, ◌++◌, length, fold, map, if◌then◌else◌, Option, Some, None, option_map}
 use Rattle.vss_names.specs.declared.context.Context.{Context}
 use Rattle.vss_names.specs.declared.context.Context.TheVariants.{Backup, AppRollback, NasRollback}
 use Rattle.vss_names.specs.declared.set_outcome.SetOutcome.{SetOutcome}
@@ -13,10 +13,12 @@ use Rattle.write_history.specs.declared.mark.Mark.{Mark}
 use Rattle.write_history.specs.declared.mark.Mark.TheVariants.{Clean, Fault, FaultAfter}
 use Rattle.write_history.specs.History.{Write, written, dropped, reverted, reverted_in_part}
 use Rattle.write_history.specs.Slots.{Placed, gone_up_to}
+use Rattle.writer_state.specs.declared.said.Said.{Said}
 use Rattle.writer_calls.specs.Script.{said_of}
 use Rattle.set_agenda.specs.declared.group.Group.{Group}
+use Rattle.set_agenda.specs.declared.group.Group.TheVariants.{Cut}
 use Rattle.set_agenda.specs.Agenda.{open_group}
-use Rattle.set_agenda.specs.Course.{Course, change_at, answered as course_answered, stepped as course_stepped, timed, failed as course_failed, gathered, prepared, snapshot_begun, completing, released}
+use Rattle.set_agenda.specs.Course.{Course, idle_ticks, change_at, answered as course_answered, stepped as course_stepped, timed, failed as course_failed, gathered, prepared, snapshot_begun, completing, released}
 use Rattle.requestor.specs.Session.{Session, context_of, opened, started, agenda_ended, set_failed}
 use Rattle.component_doc.specs.Selection.{Pair, Naming, IsNotFound, IsNotSelectable, IsNamedAlready, Names as NamesNow, naming, takers}
 use Rattle.scenario.specs.declared.line.Line.{Line as Does}
@@ -27,14 +29,11 @@ use Rattle.scenario.specs.Calls.{line_of}
 use Rattle.scenario.specs.Plan.{Plan, blocks_of, group_of, token}
 use Rattle.vss_model.specs.declared.event.Event.{Event}
 use Rattle.vss_model.specs.declared.event.Event.TheVariants.{Line, Answer as AnswerEvent, Provider, Idle}
-use Rattle.vss_model.specs.Replies.{leaves_all}
 use Rattle.vss_model.specs.State.{State, SetRow, Kept, in_progress, row_changed, left_now, kept_image}
 use Rattle.vss_model.specs.Ending.{Ending, NothingEnds, AgendaEnds, SetFails, ending, row_settled, runs}
 use Rattle.vss_model.specs.Images.{going_up_to, cleared, set_loses_image}
 use Rattle.vss_model.specs.Sessions.{is_disabled, known_metas, selected, new_number, new_set, with_volume, volumes_of}
 use Rattle.vss_model.specs.Steps.{cut_each, row_cut, is_flush, is_failed_step}
-use Rattle.vss_model.specs.Acts.{Act, enabled, reply, idle_now}
-use Rattle.vss_model.specs.Cut.{is_cut_group}
 
 pub data Change : Type 0 where
   -- so many ticks go by (this project's own)
@@ -85,6 +84,9 @@ apply st (DropsSet n) = record st { volumes = map (dropped n) st.volumes }
 apply st (Drops n v) = record st { volumes = change_at v (dropped n) st.volumes }
 apply st (Evicts n group) = record st { volumes = gone_up_to n group st.volumes }
 
+abbrev pub after_changes : State → List Change → State
+after_changes st changes = fold apply st changes
+
 -- ## the course goes on, and what ends with it
 
 abbrev pub drops : Option SetRow → List Change
@@ -110,7 +112,7 @@ fails (Some r) why st = CourseIs (course_failed why st.course) ∷ ends (SetFail
 abbrev pub makes_room : Plan → ℕ → ℕ → State → List Change
 makes_room s v b st =
     Evicts (going_up_to s v b st) (group_of s v)
-    ∷ (if set_loses_image (in_progress st) st.volumes (cleared s v b st).volumes then fails (in_progress st) InsufficientStorage st else [])
+    ∷ (if set_loses_image (in_progress st) st.volumes (cleared s v b st) then fails (in_progress st) InsufficientStorage st else [])
 
 abbrev pub puts : ℕ → Write → Mark → List Change
 puts v w Clean = Writes v w ∷ []
@@ -149,27 +151,34 @@ releases NasRollback set = []
 abbrev pub closes : Session → State → List Change
 closes q st = Names [] ∷ CourseIs (released st.course) ∷ SessionIs None ∷ releases q.context q.set
 
-abbrev pub calls : Plan → ℕ → Op → Session → State → List Change
-calls s lane (op.Disable w) q st = CourseIs (let c = st.course in record c { disabled = c.disabled ++ w ∷ [] }) ∷ []
-calls s lane op.Gather q st = goes_on true (gathered (is_disabled s st) st.clock st.course) st
-calls s lane (op.Component w full) q st = names (naming (known_metas s st) w (token s full) st.explicit)
-calls s lane op.Start q st = SessionIs (Some (started (new_number st) q)) ∷ StartsSet (new_set (new_number st) q.context) ∷ []
-calls s lane (op.Add v) q st = adds v (in_progress st)
-calls s lane op.Prepare q st = goes_on true (prepared (takers (length s.writers) (selected s q st)) st.clock st.course) st
-calls s lane op.Snapshot q st = goes_on true (snapshot_begun (volumes_of (in_progress st)) st.clock st.course) st
-calls s lane op.Complete q st = goes_on true (completing st.clock st.course) st
-calls s lane op.Abort q st = fails (in_progress st) AsyncCancelled st
-calls s lane op.End q st =
-    let aborted = fails (in_progress st) AsyncCancelled st in aborted ++ closes q (fold apply st aborted)
-calls s lane _ q st = []
+abbrev pub calls : Plan → Op → Session → State → List Change
+calls s (op.Disable w) q st = CourseIs (let c = st.course in record c { disabled = c.disabled ++ w ∷ [] }) ∷ []
+calls s op.Gather q st = goes_on true (gathered (is_disabled s st) st.clock st.course) st
+calls s (op.Component w full) q st = names (naming (known_metas s st) w (token s full) st.explicit)
+calls s op.Start q st = SessionIs (Some (started (new_number st) q)) ∷ StartsSet (new_set (new_number st) q.context) ∷ []
+calls s (op.Add v) q st = adds v (in_progress st)
+calls s op.Prepare q st = goes_on true (prepared (takers (length s.writers) (selected s q st)) st.clock st.course) st
+calls s op.Snapshot q st = goes_on true (snapshot_begun (volumes_of (in_progress st)) st.clock st.course) st
+calls s op.Complete q st = goes_on true (completing st.clock st.course) st
+calls s op.Abort q st = fails (in_progress st) AsyncCancelled st
+calls s op.End q st =
+    let aborted = fails (in_progress st) AsyncCancelled st in aborted ++ closes q (after_changes st aborted)
+calls s _ q st = []
+
+abbrev pub opens : ℕ → Bool → Context → List Change
+opens lane all c = SessionIs (Some (opened lane c all)) ∷ Names [] ∷ []
+
+abbrev pub opens_as : ℕ → Bool → Option Context → List Change
+opens_as lane all None = []
+opens_as lane all (Some c) = opens lane all c
 
 abbrev pub begins : ℕ → Op → List Change
-begins lane (op.Begin c all) = SessionIs (option_map (λ x. opened lane x all) (context_of c all)) ∷ Names [] ∷ []
+begins lane (op.Begin n all) = opens_as lane all (context_of n all)
 begins lane _ = []
 
 abbrev pub session_calls : Plan → ℕ → Op → Option Session → State → List Change
 session_calls s lane o None st = begins lane o
-session_calls s lane o (Some q) st = calls s lane o q st
+session_calls s lane o (Some q) st = calls s o q st
 
 -- ## every act
 
@@ -187,20 +196,27 @@ does_change s lane o (does.Calls c) mark st = session_calls s lane o st.session 
 does_change s lane o _ mark st = []
 
 -- all volumes of the set get their images in the one Cut step
-abbrev pub cuts : Bool → Option SetRow → ℕ → List Change
-cuts false o now = []
-cuts true None now = []
-cuts true (Some r) now = IsCutAt r.number now ∷ Cuts r.number r.volumes ∷ []
+abbrev pub cuts : Option SetRow → ℕ → List Change
+cuts None now = []
+cuts (Some r) now = IsCutAt r.number now ∷ Cuts r.number r.volumes ∷ []
+
+abbrev pub cuts_at : Option Group → State → List Change
+cuts_at (Some Cut) st = cuts (in_progress st) st.clock
+cuts_at _ st = []
 
 abbrev pub steps : Bool → Option Group → State → List Change
 steps true g st = goes_on (runs st) (course_stepped false st.clock st.course) st
-steps false g st = cuts (is_cut_group g) (in_progress st) st.clock ++ goes_on (runs st) (course_stepped true st.clock st.course) st
+steps false g st = cuts_at g st ++ goes_on (runs st) (course_stepped true st.clock st.course) st
+
+-- the provider's next step
+abbrev pub next_step : Mark → State → List Change
+next_step mark st = let g = open_group (left_now st) in steps (is_failed_step (is_flush g) mark) g st
+
+abbrev pub answers : ℕ → Said → State → List Change
+answers w said st = goes_on (runs st) (course_answered w said st.clock st.course) st
 
 abbrev pub event_changes : Plan → State → Event → Mark → List Change
 event_changes s st (Line lane o) mark = does_change s lane o (line_of o) mark st
-event_changes s st (AnswerEvent w answer) mark = goes_on (runs st) (course_answered w (said_of answer) st.clock st.course) st
-event_changes s st Provider mark = let g = open_group (left_now st) in steps (is_failed_step (is_flush g) mark) g st
-event_changes s st Idle mark = passes (idle_now st) st
-
-abbrev pub changes : Plan → State → Act → List Change
-changes s st act = if enabled s st act.event && not (leaves_all (reply s st act)) then event_changes s st act.event act.mark else []
+event_changes s st (AnswerEvent w answer) mark = answers w (said_of answer) st
+event_changes s st Provider mark = next_step mark st
+event_changes s st Idle mark = passes (idle_ticks st.clock st.course) st

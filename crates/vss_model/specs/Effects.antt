@@ -31,7 +31,7 @@ volumes_losing n v (h ∷ hs) (k ∷ ks) =
 -- the kept images that go for a write of block b to volume v, in order of sets and then of volumes
 abbrev pub evicted_for : Plan → State → ℕ → ℕ → List Evicted
 evicted_for s st v b =
-    flat_map (λ r. evicted_of r.number (volumes_losing r.number 0 st.volumes (cleared s v b st).volumes))
+    flat_map (λ r. evicted_of r.number (volumes_losing r.number 0 st.volumes (cleared s v b st)))
     (filter (λ r. is_complete r.result) st.sets)
 
 abbrev pub evicted_at : Plan → State → Option Target → List Evicted

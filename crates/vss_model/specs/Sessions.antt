@@ -1,32 +1,28 @@
--- The session calls that pass the checks: what each does, with the refusals of its own, in their order. (The calls are
+-- The session calls that pass the checks: what each is answered, with the refusals of its own, in their order. (The calls are
 -- those of the SDK's IVssBackupComponents; which refusal answers which code is this project's own.)
-use Rattle.std.specs.Prelude.{ℕ, ◌+◌, Bool, true, false, List, [], ◌∷◌, ◌++◌, length, map, nat_le, ◌==◌, ◌&&◌, not, if◌then◌else◌, Option, Some, None, slice_get}
+use Rattle.std.specs.Prelude.{ℕ, ◌+◌, Bool, true, false, List, [], ◌∷◌, ◌++◌, length, nat_le, ◌==◌, ◌&&◌, not, if◌then◌else◌, Option, Some, None, slice_get}
 use Rattle.std.specs.List.{list_any}
 use Rattle.vss_names.specs.declared.context.Context.{Context}
-use Rattle.vss_names.specs.declared.context.Context.TheVariants.{Backup, AppRollback, NasRollback}
 use Rattle.vss_names.specs.declared.set_outcome.SetOutcome.TheVariants.{Running}
 use Rattle.vss_names.specs.declared.writer_state.WriterState.{WriterState}
 use Rattle.vss_names.specs.declared.writer_state.WriterState.TheVariants as state
 use Rattle.vss_names.specs.declared.vss_result.VssResult.{VssResult}
-use Rattle.vss_names.specs.declared.vss_result.VssResult.TheVariants.{BadState, ObjectNotFound, ObjectAlreadyExists, UnsupportedContext, MaximumNumberOfVolumesReached, MaximumNumberOfSnapshotsReached, AsyncPending, AsyncCancelled}
+use Rattle.vss_names.specs.declared.vss_result.VssResult.TheVariants.{BadState, ObjectNotFound, ObjectAlreadyExists, UnsupportedContext, MaximumNumberOfVolumesReached, MaximumNumberOfSnapshotsReached, AsyncPending}
 use Rattle.writer_state.specs.declared.writer_row.WriterRow.{WriterRow}
 use Rattle.writer_meta.specs.Metadata.{Meta}
-use Rattle.component_doc.specs.Selection.{Selected, Named, all_of, Naming, IsNotFound, IsNotSelectable, IsNamedAlready, Names, naming, takers}
+use Rattle.component_doc.specs.Selection.{Selected, Named, all_of, Naming, IsNotFound, IsNotSelectable, IsNamedAlready, Names, naming}
 use Rattle.component_doc.specs.Document.{document_text}
-use Rattle.write_history.specs.History.{History, dropped}
-use Rattle.set_agenda.specs.Course.{Course, gathered, prepared, snapshot_begun, completing, released}
 use Rattle.requestor.specs.declared.mode.Mode.{Mode}
 use Rattle.requestor.specs.declared.mode.Mode.TheVariants.{Components, All}
 use Rattle.requestor.specs.declared.verdict.Verdict.{Verdict}
 use Rattle.requestor.specs.declared.verdict.Verdict.TheVariants.{Go, Blocked, Refused}
-use Rattle.requestor.specs.Session.{Session, context_of, opened as session_opened, started as session_started}
+use Rattle.requestor.specs.Session.{Session, context_of}
 use Rattle.scenario.specs.declared.op.Op.{Op}
 use Rattle.scenario.specs.declared.op.Op.TheVariants.{Begin, Disable, Gather, Component, Document, Start, Add, Prepare, Snapshot, Await, Status, Complete, Abort, End}
 use Rattle.scenario.specs.Plan.{Plan, WriterPlan, token, class_of}
-use Rattle.vss_model.specs.Reply.{Fine, Coded, Numbered, NotSelectable, DocumentOf, StatusOf}
-use Rattle.vss_model.specs.State.{State, SetRow, in_progress, row_changed, history_of}
-use Rattle.vss_model.specs.Ending.{followed, failed}
-use Rattle.vss_model.specs.Images.{Replied, refused, is_in_set}
+use Rattle.vss_model.specs.Reply.{Reply, Fine, Coded, Numbered, NotSelectable, DocumentOf, StatusOf}
+use Rattle.vss_model.specs.State.{State, SetRow, in_progress, history_of}
+use Rattle.vss_model.specs.Images.{is_in_set}
 
 -- ## who may be chosen, and who takes part
 
@@ -66,35 +62,17 @@ selected_in All s st = all_of (known_metas s st)
 abbrev pub selected : Plan → Session → State → Selected
 selected s q st = selected_in q.mode s st
 
--- ## begin
+-- ## components
 
-abbrev pub begin_in : ℕ → Bool → Option Context → State → Replied
-begin_in lane all None st = refused UnsupportedContext st
-begin_in lane all (Some c) st = (Fine, record st { session = Some (session_opened lane c all); explicit = [] })
+abbrev pub naming_reply : Naming → Reply
+naming_reply IsNotFound = Coded ObjectNotFound
+naming_reply IsNotSelectable = NotSelectable
+naming_reply IsNamedAlready = Coded ObjectAlreadyExists
+naming_reply (Names explicit) = Fine
 
--- ## writers and components
-
-abbrev pub disable : ℕ → State → Replied
-disable w st = (Fine, let c = st.course in record st { course = record c { disabled = c.disabled ++ w ∷ [] } })
-
-abbrev pub pending : Course → State → Replied
-pending c st = (Coded AsyncPending, followed true c st)
-
-abbrev pub gather : Plan → State → Replied
-gather s st = pending (gathered (is_disabled s st) st.clock st.course) st
-
-abbrev pub named_as : Naming → State → Replied
-named_as IsNotFound st = refused ObjectNotFound st
-named_as IsNotSelectable st = (NotSelectable, st)
-named_as IsNamedAlready st = refused ObjectAlreadyExists st
-named_as (Names explicit) st = (Fine, record st { explicit = explicit })
-
-abbrev pub component_in : Mode → Plan → ℕ → List ℕ → State → Replied
-component_in All s w name st = refused BadState st
-component_in Components s w name st = named_as (naming (known_metas s st) w name st.explicit) st
-
-abbrev pub document : Plan → Session → State → Replied
-document s q st = (DocumentOf (document_text (known_metas s st) (selected s q st) q.context), st)
+abbrev pub component_reply : Mode → Plan → ℕ → List ℕ → State → Reply
+component_reply All s w name st = Coded BadState
+component_reply Components s w name st = naming_reply (naming (known_metas s st) w name st.explicit)
 
 -- ## the set
 
@@ -103,18 +81,6 @@ new_number st = length st.sets + 1
 
 abbrev pub new_set : ℕ → Context → SetRow
 new_set n c = record { number = n; context = c; volumes = []; result = Running; cut_at = None }
-
-abbrev pub start_set : Session → State → Replied
-start_set q st = (
-  Numbered (new_number st),
-  record st {
-    session = Some (session_started (new_number st) q);
-    sets = st.sets ++ new_set (new_number st) q.context ∷ [];
-  },
-)
-
-abbrev pub change_set : ℕ → (SetRow → SetRow) → State → State
-change_set n f st = record st { sets = map (row_changed n f) st.sets }
 
 abbrev pub with_volume : ℕ → SetRow → SetRow
 with_volume v r = record r { volumes = r.volumes ++ v ∷ [] }
@@ -134,13 +100,13 @@ add_refusal v r st =
     else if nat_le most_images (length (history_of st v).images) then Some MaximumNumberOfSnapshotsReached
     else None
 
-abbrev pub add_to : ℕ → SetRow → Option VssResult → State → Replied
-add_to v r (Some why) st = refused why st
-add_to v r None st = (Fine, change_set r.number (with_volume v) st)
+abbrev pub fine_unless : Option VssResult → Reply
+fine_unless None = Fine
+fine_unless (Some why) = Coded why
 
-abbrev pub add : ℕ → Option SetRow → State → Replied
-add v None st = refused BadState st
-add v (Some r) st = add_to v r (add_refusal v r st) st
+abbrev pub add_reply : ℕ → Option SetRow → State → Reply
+add_reply v None st = Coded BadState
+add_reply v (Some r) st = fine_unless (add_refusal v r st)
 
 abbrev pub has_no_volume : Option SetRow → Bool
 has_no_volume None = true
@@ -150,75 +116,47 @@ abbrev pub volumes_of : Option SetRow → List ℕ
 volumes_of None = []
 volumes_of (Some r) = r.volumes
 
-abbrev pub prepare : Plan → Session → State → Replied
-prepare s q st =
-    if has_no_volume (in_progress st) then refused BadState st
-    else pending (prepared (takers (length s.writers) (selected s q st)) st.clock st.course) st
+-- to `prepare` and `snapshot`
+abbrev pub agenda_reply : Option SetRow → Reply
+agenda_reply set = if has_no_volume set then Coded BadState else Coded AsyncPending
 
-abbrev pub snapshot : State → Replied
-snapshot st =
-    if has_no_volume (in_progress st) then refused BadState st
-    else pending (snapshot_begun (volumes_of (in_progress st)) st.clock st.course) st
+-- ## every session call
 
-abbrev pub complete : State → Replied
-complete st = pending (completing st.clock st.course) st
+abbrev pub await_reply : Option VssResult → Reply
+await_reply None = Coded BadState
+await_reply (Some why) = Coded why
 
--- ## results
+abbrev pub begin_reply : Option Context → Reply
+begin_reply None = Coded UnsupportedContext
+begin_reply (Some c) = Fine
 
-abbrev pub await_last : Option VssResult → State → Replied
-await_last None st = refused BadState st
-await_last (Some why) st = refused why st
-
--- ## the end
-
--- a session of context 0 takes its set's images with it
-abbrev pub images_released : Context → Option ℕ → List History → List History
-images_released Backup None hs = hs
-images_released Backup (Some n) hs = map (dropped n) hs
-images_released AppRollback set hs = hs
-images_released NasRollback set hs = hs
-
--- the session is over
-unfoldable pub closed : Session → State → State
-closed q st = record st {
-  session = None;
-  explicit = [];
-  course = released st.course;
-  volumes = images_released q.context q.set st.volumes;
-}
-
-abbrev pub end_session : Session → State → Replied
-end_session q st = (Fine, closed q (failed AsyncCancelled st))
-
--- ## every session call that goes
-
-abbrev pub session_line : Plan → ℕ → Op → Session → State → Replied
-session_line s lane (Disable w) q st = disable w st
-session_line s lane Gather q st = gather s st
-session_line s lane (Component w full) q st = component_in q.mode s w (token s full) st
-session_line s lane Document q st = document s q st
-session_line s lane Start q st = start_set q st
-session_line s lane (Add v) q st = add v (in_progress st) st
-session_line s lane Prepare q st = prepare s q st
-session_line s lane Snapshot q st = snapshot st
-session_line s lane Await q st = await_last q.last st
-session_line s lane Status q st = (StatusOf st.course.rows, st)
-session_line s lane Complete q st = complete st
-session_line s lane Abort q st = (Fine, failed AsyncCancelled st)
-session_line s lane End q st = end_session q st
-session_line s lane _ q st = refused BadState st
+abbrev pub session_reply : Plan → Op → Session → State → Reply
+session_reply s (Disable w) q st = Fine
+session_reply s Gather q st = Coded AsyncPending
+session_reply s (Component w full) q st = component_reply q.mode s w (token s full) st
+session_reply s Document q st = DocumentOf (document_text (known_metas s st) (selected s q st) q.context)
+session_reply s Start q st = Numbered (new_number st)
+session_reply s (Add v) q st = add_reply v (in_progress st) st
+session_reply s Prepare q st = agenda_reply (in_progress st)
+session_reply s Snapshot q st = agenda_reply (in_progress st)
+session_reply s Await q st = await_reply q.last
+session_reply s Status q st = StatusOf st.course.rows
+session_reply s Complete q st = Coded AsyncPending
+session_reply s Abort q st = Fine
+session_reply s End q st = Fine
+session_reply s _ q st = Coded BadState
 
 -- without a session the checks let `begin` alone go
-abbrev pub line_without_session : ℕ → Op → State → Replied
-line_without_session lane (Begin c all) st = begin_in lane all (context_of c all) st
-line_without_session lane _ st = refused BadState st
+abbrev pub first_reply : Op → Reply
+first_reply (Begin c all) = begin_reply (context_of c all)
+first_reply _ = Coded BadState
 
-abbrev pub line_in : Plan → ℕ → Op → Option Session → State → Replied
-line_in s lane op None st = line_without_session lane op st
-line_in s lane op (Some q) st = session_line s lane op q st
+abbrev pub call_reply : Plan → Op → Option Session → State → Reply
+call_reply s op None st = first_reply op
+call_reply s op (Some q) st = session_reply s op q st
 
--- a call that is blocked changes nothing, and its reply is never seen
-abbrev pub judged : Verdict → Plan → ℕ → Op → State → Replied
-judged Go s lane op st = line_in s lane op st.session st
-judged Blocked s lane op st = refused BadState st
-judged (Refused why) s lane op st = refused why st
+-- the reply to a call that is blocked is never seen
+abbrev pub judged_reply : Verdict → Plan → Op → State → Reply
+judged_reply Go s op st = call_reply s op st.session st
+judged_reply Blocked s op st = Coded BadState
+judged_reply (Refused why) s op st = Coded why

@@ -36,21 +36,22 @@ pub use Rattle.set_agenda.specs.declared.kind.Kind.{Kind}
 pub use Rattle.set_agenda.specs.declared.kind.Kind.TheVariants.{Gather, Prepare, Snapshot}
 pub use Rattle.set_agenda.specs.declared.member.Member.{Member}
 pub use Rattle.set_agenda.specs.declared.place.Place.{Place}
-pub use Rattle.vss_model.specs.Acts.{Act, after, after_if, allows_by, enabled, event_allows, happens, idle_now, is_free, line_allows, line_enabled, may_do, may_stop_after, may_write, reply}
+pub use Rattle.vss_model.specs.Acts.{Act, after, allows_by, enabled, event_allows, idle_now, is_free, line_allows, line_enabled, may_do, may_stop_after, may_write, reply}
 pub use Rattle.vss_model.specs.Acts.{restorable, state}
+pub use Rattle.vss_model.specs.Changes.{Change, after_changes, cuts_at, fails, goes_on, passes, session_calls, steps}
 pub use Rattle.vss_model.specs.Cut.{is_cut_group}
 pub use Rattle.vss_model.specs.Effects.{ended_of, evicted, evicted_at, evicted_for, lost, lost_after, lost_order, lost_order_if, ticks_by, volumes_losing}
-pub use Rattle.vss_model.specs.Ending.{AgendaEnds, Ending, NothingEnds, SetFails, concluded, ending, failed, failed_in, followed, images_dropped, row_settled, runs}
+pub use Rattle.vss_model.specs.Ending.{AgendaEnds, Ending, NothingEnds, SetFails, ending, row_settled, runs}
 pub use Rattle.vss_model.specs.Facts.{AllLive, AreLive, IsNewest, IsOfSession, NumberedFrom, OverButNewest, has_failed, is_live}
-pub use Rattle.vss_model.specs.Images.{Replied, cleared, count_images, delete_kept, going_up_to, has_lost_image, image_block, image_blocks, is_backup, is_in_set, properties, put, read_as, refused}
-pub use Rattle.vss_model.specs.Images.{reply_of_mark, revert_refusal, revert_to, reverted_as, set_loses_image, with_room, with_room_if}
-pub use Rattle.vss_model.specs.Lines.{does, line}
+pub use Rattle.vss_model.specs.Images.{cleared, count_images, going_up_to, has_lost_image, is_backup, is_in_set, read_as}
+pub use Rattle.vss_model.specs.Images.{reply_of_mark, revert_refusal, set_loses_image}
 pub use Rattle.vss_model.specs.Outcome.{EndsAs, HasLists, IsOutcome, told_act}
+pub use Rattle.vss_model.specs.Replies.{leaves_all}
 pub use Rattle.vss_model.specs.Reply.{BlockOf, BlocksOf, Coded, Deleted, Faulted, FaultedAfter, Fine, KeptSets, PropertiesOf, Reply, StatusOf}
-pub use Rattle.vss_model.specs.Sessions.{add, add_refusal, add_to, change_set, has_no_volume, judged, known_metas, line_in, most_images, most_volumes, new_set, selected, volumes_of, with_volume}
+pub use Rattle.vss_model.specs.Sessions.{add_refusal, has_no_volume, call_reply, known_metas, most_images, most_volumes, new_set, selected, volumes_of, with_volume}
 pub use Rattle.vss_model.specs.State.{Kept, SetRow, State, has_image, history_in, history_of, in_progress, is_complete, is_held, is_kept_set, is_running, kept, kept_at, kept_if, kept_image, kept_of}
 pub use Rattle.vss_model.specs.State.{left_now, row_changed, row_of, row_of_writer, start}
-pub use Rattle.vss_model.specs.Steps.{cut_each, cut_if, cut_set, is_failed_step, is_flush, later, row_cut, step_made, stepped_as, ticked, with_cut}
+pub use Rattle.vss_model.specs.Steps.{cut_each, cut_if, is_failed_step, is_flush, row_cut, with_cut}
 pub use Rattle.vss_model.specs.Told.{Fits, IsDigestIf, IsFirstIf, mark_if, mark_of}
 pub use Rattle.vss_model.specs.Trail.{act_of, is_fault}
 pub use Rattle.vss_names.specs.Faults.{Rose}

@@ -1,5 +1,5 @@
 -- A run that is closed in its own report, and whose devices were given back.
-use Rattle.std.proofs.Common.{◌≡◌, ℕ, ◌≤◌, List, ◌++◌, length, refl, ap, sym, ◌∙◌, Bool, Option, subst, arith}
+use Rattle.std.proofs.Common.{◌≡◌, ℕ, ◌≤◌, List, ◌++◌, length, refl, ap, sym, ◌∙◌, Bool, Option, subst}
 use Rattle.std.specs.Prelude.{map, option_map, Result, Ok, Err}
 use Rattle.vss_names.specs.Faults.{all_counted}
 use Rattle.vss_names.specs.TextValue.{TextValue}
@@ -11,9 +11,9 @@ use Rattle.vss_world.specs.Devices.{tells_of}
 use Rattle.vss_world.specs.Stands.{WorldValue}
 use Rattle.vss_play.specs.declared.play_fault.PlayFault.{PlayFault}
 use Rattle.vss_play.specs.declared.play_fault.PlayFault.TheVariants.{Failed, OutOfMemory}
-use Rattle.vss_play.specs.Played.{Played, IsEnd, IsEnded, AreasHold, AnyRose}
+use Rattle.vss_play.specs.Played.{Played, IsEnd, IsEnded, AreasHold}
 use Rattle.vss_play.specs.Running.{IsPlay}
-use Rattle.vss_play.specs.Closing.{IsEnding, HasClosing}
+use Rattle.vss_play.specs.Closing.{HasRisen, IsEnding, HasClosing, has_failed}
 use Rattle.vss_play.specs.Lasting.{AreLeft}
 use Rattle.vss_play.proofs.ClosingLines.{closed_as, play_ending}
 use Rattle.vss_play.proofs.Finishing.{play_kept}
@@ -60,7 +60,8 @@ reported {D} ghosts s old new cursors trail text report kept ending closing area
 
 -- it has none, by which fault
 pub unreported : {D : Type 0} (ghosts : Ghosts D) (s : Plan) (trail : List Move) (old new : List D) (text : List ℕ) (fault : PlayFault)
-    → (fault ≡ OutOfMemory → map ghosts.count new ≡ map ghosts.count old) → (fault ≡ Failed → AnyRose (map ghosts.count old) (map ghosts.count new))
+    → HasRisen (has_failed {T = Unit {0}} (Err fault)) (map ghosts.count old) (map ghosts.count new)
     → IsEnd ghosts (record { plan = s; trail = trail; devices = old; lines = text }) (record { plan = s; trail = trail; devices = new; lines = text })
     (Err fault)
-unreported ghosts s trail old new text fault wanting rose = grind arith
+unreported ghosts s trail old new text Failed risen = risen
+unreported ghosts s trail old new text OutOfMemory risen = risen

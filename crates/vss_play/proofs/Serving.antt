@@ -1,6 +1,7 @@
 -- What a core that its caller drives keeps.
-use Rattle.std.proofs.Common.{◌≡◌, ℕ, ◌+◌, ◌<◌, List, [], ◌∷◌, ◌++◌, length, take, Option, Some, arith, length-append}
-use Rattle.std.specs.Prelude.{drop, slice_get}
+use Rattle.std.proofs.Common.{◌≡◌, ℕ, ◌+◌, ◌<◌, ◌≤◌, List, [], ◌∷◌, ◌++◌, length, take, true, Option, Some, arith, length-append, subst}
+use Rattle.std.proofs.Math.Nat.{lt_of_not-le}
+use Rattle.std.specs.Prelude.{drop, is_err, slice_get, IsOk, Result, Ok, Err}
 use Rattle.std.proofs.lemmas.List.{length-drop, length-take-le}
 use Rattle.volume_device.specs.declared.device.Device.{Ghosts}
 use Rattle.scenario.specs.Plan.{Plan, LaneLine, lines_of}
@@ -55,6 +56,11 @@ actor_of s event h = grind arith
 pub numbers_of : {D : Type 0} (ghosts : Ghosts D) (s : Plan) (old new : WorldValue D) (event : Event) (o : Outcome)
     → IsEvent s event → IsStanding ghosts.told old s → IsMoved ghosts old new s event o → AreInPlan s (actor_by event) o new.evicted
 numbers_of ghosts s old new event o is standing moves = grind (arith, numbers_by, actor_of)
+
+-- where no room was made for so many bytes there was none
+pub no_room : {T E : Type 0} (n m spare : ℕ) (r : Result T E) → n ≡ m → (n ≤ spare → IsOk r) → is_err r ≡ true → spare < m
+no_room n m spare (Ok x) is succeeds failed = cc
+no_room n m spare (Err e) is succeeds failed = subst (λ (k : ℕ). spare < k) is (lt_of_not-le (λ fits. let h = succeeds fits in cc))
 
 -- a list that was lent whole has as many members as before
 pub given_back : {X : Type 0} (n : ℕ) (new old : List X) → length old ≡ n → length (take n (new ++ drop (length new) old)) ≡ n

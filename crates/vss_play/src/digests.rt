@@ -1,15 +1,14 @@
 //! The digests of the volumes at the end of a run.
 
-ghost use Rattle.std.specs.Prelude.{◌≡◌, length, map, OnOk, IsErr};
+ghost use Rattle.std.specs.Prelude.{◌≡◌, length, map, is_err, OnOk};
 ghost use Rattle.vss_world.specs.Devices.{tells_of};
-ghost use Rattle.vss_world.specs.Quiet.{IsQuiet};
-ghost use Rattle.vss_play.specs.Played.{AnyRose, AreasHold};
-ghost use Rattle.vss_play.specs.Closing.{AreReady, StandsAfter, IsEnding};
+ghost use Rattle.vss_play.specs.Played.{AreasHold};
+ghost use Rattle.vss_play.specs.Closing.{AreReady, Closes, HasRisen, StandsAfter, IsEnding};
 ghost use Rattle.vss_play.specs.Digested.{AreDigests};
 ghost use Rattle.vss_play.specs.Lasting.{AreLeft};
 
 use crate::closing::sync_all;
-use crate::end_digests::digest_volume;
+use crate::end_digests::digest_of;
 use provider::ReadyDigests;
 use scenario::Scenario;
 use volume_device::Device;
@@ -29,12 +28,10 @@ fn digest_volumes<D: Device>(
     requires stands { StandsAfter D.told world.old scenario.now trail.now.moves }
     requires ready { AreReady (tells_of D.told scenario.now world.old.devices) scenario.now trail.now.moves ready.old.rows.items }
     ensures digests { OnOk result (AreDigests (tells_of D.told scenario.now world.old.devices) scenario.now trail.now.moves out.new) }
-    ensures quiet { IsQuiet D.Device world.old world.new scenario.now }
-    ensures same { OnOk result (map D.count world.new.devices ≡ map D.count world.old.devices) }
-    ensures rose { IsErr result → AnyRose (map D.count world.old.devices) (map D.count world.new.devices) }
+    ensures closes { Closes D.Device scenario.now world.old world.new ready.old.rows ready.new.rows (is_err result) }
 {
     for volume in 0..scenario.volumes() {
-        match digest_volume(scenario, trail, world, ready, volume) {
+        match digest_of(scenario, trail, world, ready, volume, None) {
             Ok(digest) => out[volume as usize] = digest,
             Err(Failed) => return Err(Failed),
         }
@@ -58,8 +55,7 @@ pub fn digest_all<D: Device>(
     ensures areas { OnOk result (AreasHold D.told scenario.now trail.now.moves world.new.devices) }
     ensures left { OnOk result (AreLeft D.Device scenario.now world.new.devices) }
     ensures ending { IsEnding D.Device world.old world.new scenario.now }
-    ensures same { OnOk result (map D.count world.new.devices ≡ map D.count world.old.devices) }
-    ensures rose { IsErr result → AnyRose (map D.count world.old.devices) (map D.count world.new.devices) }
+    ensures counts { HasRisen (is_err result) (map D.count world.old.devices) (map D.count world.new.devices) }
 {
     sync_all(scenario, trail, world)?;
     digest_volumes(scenario, trail, world, ready, out)?;

@@ -1,14 +1,12 @@
 //! The digests at the end of a run: those that could be made side by side, and the others one after another.
 
-ghost use Rattle.std.specs.Prelude.{◌≡◌, ◌<◌, None, Some, true, is_some, length, map, IfOk, OnOk, IsErr};
+ghost use Rattle.std.specs.Prelude.{◌≡◌, ◌<◌, true, is_some, is_err, length, IfOk, IfSome};
 ghost use Rattle.write_history.specs.History.{point_in};
 ghost use Rattle.vss_model.specs.State.{history_of, kept};
 ghost use Rattle.vss_world.specs.Devices.{tells_of};
 ghost use Rattle.vss_world.specs.Reading.{IsDigestOf};
-ghost use Rattle.vss_world.specs.Quiet.{IsQuiet};
 ghost use Rattle.vss_world.specs.Stands.{IfStands};
-ghost use Rattle.vss_play.specs.Played.{AnyRose};
-ghost use Rattle.vss_play.specs.Closing.{AreReady, StandsAfter, state_after};
+ghost use Rattle.vss_play.specs.Closing.{AreReady, Closes, StandsAfter, state_after};
 
 use provider::{DigestsOf, ReadyDigests};
 use scenario::Scenario;
@@ -37,56 +35,33 @@ pub(crate) fn ready_digests<R: Threads + Sync, D: Device + Sync>(
     }
 }
 
-/// The SHA-256 of a volume: the next one that is ready, where it is of this volume, or else made now.
-pub(crate) fn digest_volume<D: Device>(
+/// The SHA-256 of a volume, or of its kept image of a set: the next one that is ready, where it is of this, or else made now.
+pub(crate) fn digest_of<D: Device>(
     scenario: &Scenario,
     trail: &Trail,
     world: &mut World<D>,
     ready: &mut ReadyDigests,
     volume: u32,
+    set: Option<u32>,
 ) -> Result<[u8; 32], Failed>
     requires in_range { volume < length scenario.now.volumes }
+    requires is_kept { IfSome set (λ n. IfStands D.told world.old scenario.now (λ st. is_some (point_in n (kept st (history_of st volume))) ≡ true)) }
     requires stands { StandsAfter D.told world.old scenario.now trail.now.moves }
     requires ready { AreReady (tells_of D.told scenario.now world.old.devices) scenario.now trail.now.moves ready.old.rows.items }
-    ensures digest { IfOk result (IsDigestOf (tells_of D.told scenario.now world.old.devices) scenario.now (state_after scenario.now trail.now.moves) volume None) }
-    ensures rows { ready.new.rows ≡ ready.old.rows }
-    ensures quiet { IsQuiet D.Device world.old world.new scenario.now }
-    ensures same { OnOk result (map D.count world.new.devices ≡ map D.count world.old.devices) }
-    ensures rose { IsErr result → AnyRose (map D.count world.old.devices) (map D.count world.new.devices) }
+    ensures digest { IfOk result (IsDigestOf (tells_of D.told scenario.now world.old.devices) scenario.now (state_after scenario.now trail.now.moves) volume set) }
+    ensures closes { Closes D.Device scenario.now world.old world.new ready.old.rows ready.new.rows (is_err result) }
 {
-    if let Some(digest) = ready.take(volume, None) {
+    if let Some(digest) = ready.take(volume, set) {
         return Ok(digest);
     }
-    match world.digest(scenario, volume) {
-        Ok(digest) => Ok(digest),
-        Err(_fault) => Err(Failed),
-    }
-}
-
-/// The SHA-256 of a kept image of a volume: the next one that is ready, where it is of this image, or else made now.
-pub(crate) fn digest_image<D: Device>(
-    scenario: &Scenario,
-    trail: &Trail,
-    world: &mut World<D>,
-    ready: &mut ReadyDigests,
-    set: u32,
-    volume: u32,
-) -> Result<[u8; 32], Failed>
-    requires in_range { volume < length scenario.now.volumes }
-    requires is_kept { IfStands D.told world.old scenario.now (λ st. is_some (point_in set (kept st (history_of st volume))) ≡ true) }
-    requires stands { StandsAfter D.told world.old scenario.now trail.now.moves }
-    requires ready { AreReady (tells_of D.told scenario.now world.old.devices) scenario.now trail.now.moves ready.old.rows.items }
-    ensures digest { IfOk result (IsDigestOf (tells_of D.told scenario.now world.old.devices) scenario.now (state_after scenario.now trail.now.moves) volume (Some set)) }
-    ensures rows { ready.new.rows ≡ ready.old.rows }
-    ensures quiet { IsQuiet D.Device world.old world.new scenario.now }
-    ensures same { OnOk result (map D.count world.new.devices ≡ map D.count world.old.devices) }
-    ensures rose { IsErr result → AnyRose (map D.count world.old.devices) (map D.count world.new.devices) }
-{
-    if let Some(digest) = ready.take(volume, Some(set)) {
-        return Ok(digest);
-    }
-    match world.digest_image(scenario, set, volume) {
-        Ok(digest) => Ok(digest),
-        Err(_fault) => Err(Failed),
+    match set {
+        None => match world.digest(scenario, volume) {
+            Ok(digest) => Ok(digest),
+            Err(_fault) => Err(Failed),
+        },
+        Some(set) => match world.digest_image(scenario, set, volume) {
+            Ok(digest) => Ok(digest),
+            Err(_fault) => Err(Failed),
+        },
     }
 }

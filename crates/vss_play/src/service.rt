@@ -1,17 +1,17 @@
-ghost use Rattle.std.specs.Prelude.{true, ◌≡◌, ◌<◌, ◌≤◌, ◌+◌, ◌⊎◌, ◌↔◌, [], Some, length, min, replicate, slice_get, OnOk, OnErr, IfOk, IfSome, IsErrOf};
+ghost use Rattle.std.specs.Prelude.{true, ◌≡◌, ◌<◌, ◌≤◌, ◌+◌, ◌⊎◌, ◌↔◌, [], Some, length, min, replicate, slice_get, OnOk, OnErr, IfOk, IfSome, IsErrOf, is_some};
 ghost use Rattle.vss_names.specs.Faults.{Rose};
-ghost use Rattle.cow_volume.specs.Calls.{counted_as};
 ghost use Rattle.coordinator.specs.OpenOrders.{standing_in};
 ghost use Rattle.sessions.specs.Moves.{IsNextStep};
 ghost use Rattle.vss_model.specs.Acts.{enabled};
-ghost use Rattle.vss_model.specs.declared.event.Event.TheVariants as event;
-ghost use Rattle.vss_world.specs.Moves.{IsEvent, IsStepped, AreListed, takes_memory};
+ghost use Rattle.vss_model.specs.declared.event.Event.TheVariants.{Provider as ProviderEvent};
+ghost use Rattle.write_history.specs.declared.mark.Mark.TheVariants as mark;
+ghost use Rattle.vss_world.specs.Moves.{AreListed, IsEvent, IsStepped, IsToldStep, StepLasts, takes_memory};
 ghost use Rattle.vss_world.specs.Stands.{IsOf, Stands, IsStanding, IfStands};
 ghost use Rattle.vss_world.specs.declared.reply.Reply.TheVariants.{Moved};
 ghost use Rattle.vss_report.specs.ToldLines.{most_bytes};
 ghost use Rattle.vss_play.specs.Asking.{AreAsked, nothing};
 ghost use Rattle.vss_play.specs.Played.{AreNamed, IsDropped, IsUndone, device_names};
-ghost use Rattle.vss_play.specs.Running.{AreInPlan};
+ghost use Rattle.vss_play.specs.Running.{AreInPlan, bytes_for};
 ghost use Rattle.vss_play.specs.Serving.{AreToldOf, actor_by, line_at, moves_in};
 
 use crate::asking::{first_answer, none_given, tell_aborts};
@@ -205,6 +205,8 @@ impl<D: Device> Service<D> {
         ensures full { IsErrOf result StepFault.TrailFull ↔ (self.old.moves ≡ 2097151) }
         ensures takes { IsErrOf result StepFault.OutOfMemory → takes_memory event ≡ true }
         ensures stepped { IfOk result (IsStepped D.Device self.old.world self.new.world self.old.plan event) }
+        ensures lasts { event ≡ ProviderEvent →
+            IfOk result (StepLasts D.Device self.new.world self.old.plan) }
         ensures listed { IfOk result (λ reply. AreListed reply self.new.world.listed) }
     {
         if self.moves >= MOST_MOVES {
@@ -222,6 +224,7 @@ impl<D: Device> Service<D> {
 
     /// Makes an event, as `step` does, and appends the lines that the report of a run has for such a move. `line` is the number of the
     /// lane's line in the text, and is not used for another event. Where it makes no move, it appends nothing.
+    #[tactic(auto, using(crate::proofs::Serving::no_room))]
     pub fn step_into(
         &mut self,
         alloc: Global,
@@ -236,7 +239,11 @@ impl<D: Device> Service<D> {
         ensures given { self.new.given ≡ self.old.given }
         ensures moves { IfOk result (λ reply. self.new.moves ≡ self.old.moves + moves_in reply) }
         ensures full { IsErrOf result StepFault.TrailFull → self.old.moves ≡ 2097151 }
+        ensures takes { IsErrOf result StepFault.OutOfMemory →
+            (takes_memory event ≡ true) ⊎ (out.old.spare < bytes_for self.old.plan event) }
         ensures stepped { IfOk result (IsStepped D.Device self.old.world self.new.world self.old.plan event) }
+        ensures lasts { event ≡ ProviderEvent →
+            IfOk result (StepLasts D.Device self.new.world self.old.plan) }
         ensures listed { IfOk result (λ reply. AreListed reply self.new.world.listed) }
         ensures lines { IfOk result (λ reply. AreToldOf D.told self.new.plan self.new.world self.new.moves line event reply out.old.bytes out.new.bytes) }
     {
@@ -253,7 +260,9 @@ impl<D: Device> Service<D> {
 
     /// The provider's next step and its volume; none if it has no step to make.
     pub fn next_step(&self) -> Option<(Group, Option<u32>)>
-        ensures { IfSome result (λ step. IsNextStep self.now.world.sessions step.0 step.1) }
+        ensures working { IfStands D.told self.now.world self.now.plan
+            (λ st. is_some result ≡ enabled self.now.plan st ProviderEvent) }
+        ensures step { IfSome result (λ step. IsNextStep self.now.world.sessions step.0 step.1) }
     {
         self.world.next_step()
     }
@@ -265,7 +274,11 @@ impl<D: Device> Service<D> {
         ensures given { self.new.given ≡ self.old.given }
         ensures moves { IfOk result (λ reply. self.new.moves ≡ self.old.moves + moves_in reply) }
         ensures full { IsErrOf result StepFault.TrailFull → self.old.moves ≡ 2097151 }
-        ensures stepped { IfOk result (IsStepped (counted_as D.Device true) self.old.world self.new.world self.old.plan event.Provider) }
+        ensures takes { IsErrOf result StepFault.OutOfMemory → ⊥ }
+        ensures stepped { IfOk result
+            (IsToldStep D.Device self.old.world self.new.world self.old.plan
+            ProviderEvent mark.Fault) }
+        ensures listed { IfOk result (λ reply. AreListed reply self.new.world.listed) }
     {
         if self.moves >= MOST_MOVES {
             return Err(StepFault::TrailFull);
@@ -285,6 +298,7 @@ impl<D: Device> Service<D> {
 
     /// Makes the provider's step as one in which its device failed, though no such call is made, and appends its lines as `step_into` does. A step
     /// that cannot fail is made as it is.
+    #[tactic(auto, using(crate::proofs::Serving::no_room))]
     pub fn fail_into(&mut self, alloc: Global, out: &mut Text) -> Result<Reply, StepFault>
         ensures same { OnErr result (self.new ≡ self.old) }
         ensures untold { OnErr result (out.new.bytes ≡ out.old.bytes) }
@@ -292,8 +306,14 @@ impl<D: Device> Service<D> {
         ensures given { self.new.given ≡ self.old.given }
         ensures moves { IfOk result (λ reply. self.new.moves ≡ self.old.moves + moves_in reply) }
         ensures full { IsErrOf result StepFault.TrailFull → self.old.moves ≡ 2097151 }
-        ensures stepped { IfOk result (IsStepped (counted_as D.Device true) self.old.world self.new.world self.old.plan event.Provider) }
-        ensures lines { IfOk result (λ reply. AreToldOf D.told self.new.plan self.new.world self.new.moves 0 event.Provider reply out.old.bytes out.new.bytes) }
+        ensures takes { IsErrOf result StepFault.OutOfMemory → out.old.spare < most_bytes 0 }
+        ensures stepped { IfOk result
+            (IsToldStep D.Device self.old.world self.new.world self.old.plan
+            ProviderEvent mark.Fault) }
+        ensures listed { IfOk result (λ reply. AreListed reply self.new.world.listed) }
+        ensures lines { IfOk result (λ reply.
+            AreToldOf D.told self.new.plan self.new.world self.new.moves 0 ProviderEvent reply
+            out.old.bytes out.new.bytes) }
     {
         let _kept = self.world();
         let event = Event::Provider;

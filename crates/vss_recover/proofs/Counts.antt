@@ -1,11 +1,12 @@
 -- How many slots of the overlay are used: as many as there are pairs of a standing image and a block of it that a recovery write names.
-use Rattle.std.proofs.Common.{◌≡◌, ◌≢◌, ◌<◌, ℕ, List, [], ◌∷◌, ◌++◌, length, map, refl, ap, sym, subst, ◌∙◌, arith, Bool, true, false, not, ◌&&◌, ◌||◌, Option, Some, inl, inr}
-use Rattle.std.specs.Prelude.{filter, slice_get, slice_index, ◌==◌, nat_lt}
+use Rattle.std.proofs.Common.{◌≡◌, ◌≢◌, ◌<◌, ℕ, List, [], ◌∷◌, ◌++◌, length, map, refl, ap, sym, subst, ◌∙◌, arith, Bool, true, false, not, ◌||◌, Option, Some, inl, inr}
+use Rattle.std.specs.Prelude.{filter, slice_get, ◌==◌, nat_lt}
 use Rattle.std.specs.List.{range_with_len}
 use Rattle.std.proofs.lemmas.List.{length-map, length-append}
 use Rattle.std.proofs.lemmas.List.Sums.{length-filter}
 use Rattle.std.proofs.lemmas.List.Sorted.{length_permutation}
-use Rattle.std.proofs.lemmas.Bool.{lt-ltb, ltb-true}
+use Rattle.std.proofs.lemmas.Bool.{lt-ltb, ltb-true, and_parts, and_from, not_from_false}
+use Rattle.std.proofs.lemmas.Grind.{common_steps}
 use Rattle.write_history.specs.History.{Image, names, blocks_named, sets_of, AreLater, AreInTime}
 use Rattle.diff_area.specs.Records.{free, is_free, used_in, AreRecords}
 use Rattle.diff_area.specs.declared.table_record.Record.{Record}
@@ -24,27 +25,14 @@ use Rattle.vss_recover.specs.RecoverValue.{IsOverlay}
 
 -- ## tests
 
-both : (a b : Bool) → (a && b) ≡ true → (a ≡ true) × (b ≡ true)
-both a b e = grind arith
-
-joined : (a b : Bool) → a ≡ true → b ≡ true → (a && b) ≡ true
-joined a b e f = grind arith
-
 not_false : (b : Bool) → not b ≡ true → b ≡ false
 not_false b e = grind arith
-
-is_not : (b : Bool) → b ≡ false → not b ≡ true
-is_not b e = grind arith
 
 -- ## the records of an overlay
 
 pub of_one : (n : ℕ) (records : List Record) (k : ℕ) (r : Record) → AreRecords (n ∷ []) records → slice_get records k ≡ Some r → r ≢ free
     → (0 < r.set) × (r.block < n) × (r ≡ record_of 0 r.set r.block)
-of_one n records k r are at used =
-    let is = are.each k r at used in
-    let low = is.volume in
-    let first : r.volume ≡ 0 = omega arith in
-    (is.set, subst (λ (v : ℕ). r.block < slice_index (n ∷ []) v) first is.block, ap (λ v. record_of v r.set r.block) first)
+of_one n records k r are at used = let is = are.each k r at used in let low = is.volume in let first : r.volume ≡ 0 = omega arith in grind (arith, common_steps)
 
 -- ## one image
 
@@ -67,10 +55,10 @@ apart_pairs : (n : ℕ) (rs : List Recovery) (set : ℕ) → AreApart (pairs_of 
 apart_pairs n rs set = grind (arith, apart-map, apart-filtered, apart-range)
 
 block_of : (set : ℕ) (r : Record) → is_block_of set r ≡ true → (0 < r.set) × (r.set ≡ set)
-block_of set r e = let parts = both (nat_lt 0 r.set) (r.set == set) e in (ltb-true 0 r.set parts.0, same_number r.set set parts.1)
+block_of set r e = let parts = and_parts (nat_lt 0 r.set) (r.set == set) e in (ltb-true 0 r.set parts.0, same_number r.set set parts.1)
 
 of_block : (set b : ℕ) → 0 < set → is_block_of set (record_of 0 set b) ≡ true
-of_block set b l = joined (nat_lt 0 set) (set == set) (lt-ltb 0 set l) (number_is set)
+of_block set b l = and_from (nat_lt 0 set) (set == set) (lt-ltb 0 set l) (number_is set)
 
 -- as many records are of an image as blocks of it are named
 pub counted_in : (slots : Option (List (List ℕ))) (records : List Record) (n : ℕ) (rs : List Recovery) (set : ℕ) → IsOverlay slots records n rs → AreRecords (n ∷ []) records → 0 < set
@@ -103,19 +91,11 @@ all_pairs n rs (set ∷ sets) = pairs_of n rs set ++ all_pairs n rs sets
 
 length-all_pairs : (n : ℕ) (rs : List Recovery) (sets : List ℕ) → length (all_pairs n rs sets) ≡ all_recovered n rs sets
 length-all_pairs n rs [] = refl
-length-all_pairs n rs (set ∷ sets) =
-    let one = length-map (blocks_named n (recovered set rs)) (record_of 0 set) in
-    let rest = length-all_pairs n rs sets in
-    length-append (pairs_of n rs set) (all_pairs n rs sets) ∙ omega arith
+length-all_pairs n rs (set ∷ sets) = grind (arith, common_steps, length-map, length-append, length-all_pairs n rs sets)
 
 has_all : (n : ℕ) (rs : List Recovery) (sets : List ℕ) (set b : ℕ) → is_among set sets ≡ true → b < n → names (recovered set rs) b ≡ true → Has (record_of 0 set b) (all_pairs n rs sets)
 has_all n rs [] set b among l e = cc
-has_all n rs (s ∷ sets) set b among l e = by_test (s == set) refl among (λ g. has_all n rs sets set b g l e) where
-  by_test : (t : Bool) → (s == set) ≡ t → (t || is_among set sets) ≡ true → (is_among set sets ≡ true → Has (record_of 0 set b) (all_pairs n rs sets))
-      → Has (record_of 0 set b) (pairs_of n rs s ++ all_pairs n rs sets)
-  by_test true f g rest = has_left (record_of 0 set b) (pairs_of n rs s) (all_pairs n rs sets)
-      (subst (λ (x : ℕ). Has (record_of 0 set b) (pairs_of n rs x)) (sym (same_number s set f)) (has_pair n rs set b l e))
-  by_test false f g rest = has_right (record_of 0 set b) (pairs_of n rs s) (all_pairs n rs sets) (rest g)
+has_all n rs (s ∷ sets) set b among l e = grind (arith, common_steps, has_left, same_number, has_pair, has_right, has_all n rs sets set b)
 
 from_all : (n : ℕ) (rs : List Recovery) (sets : List ℕ) (r : Record) → Has r (all_pairs n rs sets) → (set : ℕ) × Has set sets × Pair n rs set r
 from_all n rs [] r m = absurd m
@@ -154,7 +134,7 @@ counted_all slots records n rs sets is are apart above stand =
     let l = above of.0 of.1 in
     let at = is.recorded of.0 of.2.block l of.2.low of.2.named in
     let P : Record → Type 0 = λ x. Has x (filter (λ r. not (is_free r)) records) in
-    subst P of.2.is (has-filter (λ r. not (is_free r)) (record_of 0 of.0 of.2.block) records (is_not (is_free (record_of 0 of.0 of.2.block)) (record_is_used (record_of 0 of.0 of.2.block) l))
+    subst P of.2.is (has-filter (λ r. not (is_free r)) (record_of 0 of.0 of.2.block) records (not_from_false (is_free (record_of 0 of.0 of.2.block)) (record_is_used (record_of 0 of.0 of.2.block) l))
     (has_at records at.0 (record_of 0 of.0 of.2.block) at.1)))))
     ∙ length-all_pairs n rs sets
 
@@ -172,10 +152,7 @@ apart_sets writes (i ∷ images) in_time = ((λ m. let l = later_set i images i.
 pub among_has : (sets : List ℕ) (s : ℕ) → Has s sets → is_among s sets ≡ true
 among_has [] s m = absurd m
 among_has (x ∷ sets) s (inl e) = ap (λ (t : Bool). t || is_among s sets) (numbers_are x s e)
-among_has (x ∷ sets) s (inr m) = by_test (x == s) (among_has sets s m) where
-  by_test : (t : Bool) → is_among s sets ≡ true → (t || is_among s sets) ≡ true
-  by_test true e = refl
-  by_test false e = e
+among_has (x ∷ sets) s (inr m) = grind (arith, common_steps, among_has sets s m)
 
 -- ## whether a block has a slot
 

@@ -2,10 +2,10 @@
 use Rattle.std.proofs.Common.{ℕ, zero, suc, ◌≡◌, ◌<◌, ◌≤◌, ◌+◌, Bool, true, false, ◌&&◌, List, [], ◌∷◌, length, map, take, get_or, Option, Some, None, slice_get, slice_set, refl, sym, ap, ◌∙◌, arith}
 use Rattle.std.specs.Prelude.{◌==◌, nat_lt, if◌then◌else◌, count_by}
 use Rattle.std.specs.Option.{option_and_then}
-use Rattle.std.proofs.lemmas.Bool.{false≢true}
 use Rattle.std.proofs.lemmas.List.{take_all}
 use Rattle.std.proofs.lemmas.List.Sums.{sum_by-cons, count_by_more_yes, count_by_more_no}
 use Rattle.std.proofs.lemmas.Option.{none-some, same_Some}
+use Rattle.std.proofs.lemmas.Grind.{common_steps}
 use Rattle.diff_area.specs.Records.{free}
 use Rattle.diff_area.specs.declared.table_record.Record.{Record}
 use Rattle.diff_map.specs.Index.{IsIndex}
@@ -13,7 +13,7 @@ use Rattle.diff_map.specs.declared.copied.Copied.{Copied}
 use Rattle.diff_map.specs.declared.entry.Entry.{Entry}
 use Rattle.cow_volume.specs.StandsFor.{record_of}
 use Rattle.cow_volume.specs.Tied.{copied_for}
-use Rattle.cow_volume.specs.Followed.{record_for, followed_row, followed}
+use Rattle.cow_volume.specs.Followed.{followed}
 use Rattle.cow_volume.proofs.Rows.{both_from}
 use Rattle.cow_volume.proofs.FollowedRows.{follows-of, follows-other}
 use Rattle.vss_recover.proofs.Passing.{passed, passed_more, passed_all, still_there, entry_at, entry_is}
@@ -30,38 +30,13 @@ count_cons p x xs = sum_by-cons (λ y. if p y then 1 else 0) x xs
 -- one record that is counted becomes one that is not
 count_set : (p : Record → Bool) (xs : List Record) (k : ℕ) (x y : Record) → slice_get xs k ≡ Some x → p y ≡ false → count_by p (slice_set xs k y) + of_test (p x) ≡ count_by p xs
 count_set p [] k x y h out = absurd (none-some x h)
-count_set p (z ∷ xs) zero x y h out =
-    let new = count_cons p y xs in
-    let old = count_cons p z xs in
-    let gone : of_test (p y) ≡ 0 = ap of_test out in
-    let was : of_test (p z) ≡ of_test (p x) = ap (λ (r : Record). of_test (p r)) (same_Some z x h) in
-    omega arith
-count_set p (z ∷ xs) (suc k) x y h out =
-    let new = count_cons p z (slice_set xs k y) in
-    let old = count_cons p z xs in
-    let rest = count_set p xs k x y h out in
-    omega arith
+count_set p (z ∷ xs) zero x y h out = grind (arith, common_steps, count_cons, same_Some)
+count_set p (z ∷ xs) (suc k) x y h out = grind (arith, common_steps, count_cons, count_set p xs k x y h out)
 
 count_none : (p : Record → Bool) (v : ℕ) (records : List Record) → ((r : Record) → p r ≡ true → (nat_lt 0 r.set && (r.volume == v)) ≡ true) → p free ≡ false
     → count_by p (followed v (map (option_and_then none) (map (copied_for v) records)) records) ≡ 0
 count_none p v [] on out = refl
-count_none p v (r ∷ records) on out =
-    let first = count_cons p (followed_row v (option_and_then none (copied_for v r)) r) (followed v (map (option_and_then none) (map (copied_for v) records)) records) in
-    let here : of_test (p (followed_row v (option_and_then none (copied_for v r)) r)) ≡ 0 = ap of_test (by_test (nat_lt 0 r.set && (r.volume == v)) refl) in
-    let rest = count_none p v records on out in
-    omega arith
-  where
-    no_copy : (o : Option Copied) → record_for v (option_and_then none o) ≡ free
-    no_copy None = refl
-    no_copy (Some c) = refl
-
-    by_other : (t : Bool) → p r ≡ t → (nat_lt 0 r.set && (r.volume == v)) ≡ false → p r ≡ false
-    by_other true e other = absurd (false≢true (sym other ∙ on r e))
-    by_other false e other = e
-
-    by_test : (t : Bool) → (nat_lt 0 r.set && (r.volume == v)) ≡ t → p (followed_row v (option_and_then none (copied_for v r)) r) ≡ false
-    by_test true e = let both = both_from r.set v r.volume e in ap p (follows-of v (option_and_then none (copied_for v r)) r both.0 both.1 ∙ no_copy (copied_for v r)) ∙ out
-    by_test false e = ap p (follows-other v (option_and_then none (copied_for v r)) r e) ∙ by_other (p r) refl e
+count_none p v (r ∷ records) on out = grind (arith, common_steps, count_cons, both_from, follows-of, follows-other, count_none p v records on out)
 
 module _ (p : Record → Bool) (v : ℕ) (entries : List Entry) (records : List Record) (index : IsIndex entries (map (copied_for v) records))
     (on : (r : Record) → p r ≡ true → (nat_lt 0 r.set && (r.volume == v)) ≡ true) (out : p free ≡ false) where

@@ -1,8 +1,9 @@
 -- What the calls come to, from what the calls that they are made of come to.
-use Rattle.std.proofs.Common.{◌≡◌, ◌<◌, ◌≤◌, ◌∙◌, ◌++◌, length-append, ℕ, zero, suc, List, [], ◌∷◌, ◌-◌, ◌+◌, Bool, true, false, Option, Some, ap, sym, subst, arith, length}
+use Rattle.std.proofs.Common.{◌≡◌, ◌<◌, ◌≤◌, ◌∙◌, ◌++◌, length-append, ℕ, zero, suc, List, [], ◌∷◌, ◌-◌, ◌+◌, Bool, true, false, Option, Some, ap, sym, arith, length}
 use Rattle.std.proofs.Common.{slice_index_or, filter, take}
 use Rattle.std.specs.Prelude.{Result, Ok, Err, OnOk, IfSome, slice_get, if◌then◌else◌}
 use Rattle.std.proofs.lemmas.Option.{get_or_from_slice_get}
+use Rattle.std.proofs.lemmas.Grind.{common_steps}
 use Rattle.cow_volume.specs.Calls.{is_among}
 use Rattle.cow_volume.proofs.Group.{slice_get_inside}
 use Rattle.vss_recover.specs.Steps.{IsNewest}
@@ -32,7 +33,7 @@ use Rattle.vss_recover.specs.declared.recover_fault.RecoverFault.{RecoverFault}
 use Rattle.vss_recover.specs.Claims.{owner_of}
 use Rattle.vss_recover.specs.Recoveries.{Recovery}
 use Rattle.vss_recover.specs.Steps.Step.{Recovered}
-use Rattle.vss_recover.specs.OverlayCalls.{IsPut, IsPutIn}
+use Rattle.vss_recover.specs.OverlayCalls.{IsPut}
 use Rattle.vss_recover.specs.Calls.{IsStep}
 use Rattle.vss_recover.proofs.Values.{value_of}
 
@@ -47,8 +48,7 @@ blocks_kept old new e = ap (λ (ns : List ℕ). blocks_in (slice_get ns 0)) e
 -- ## the newest of some images
 
 some_image : (sets : List ℕ) (set : ℕ) → is_among set sets ≡ true → 0 < length sets
-some_image [] set e = cc
-some_image (s ∷ sets) set e = omega arith
+some_image sets set e = grind (arith, common_steps)
 
 last_is : (sets : List ℕ) (d : ℕ) → 0 < length sets → slice_get sets (length sets - 1) ≡ Some (slice_index_or sets (length sets - 1) d)
 last_is sets d some = let x = slice_get_inside sets (length sets - 1) (omega arith) in x.1 ∙ ap Some (sym (get_or_from_slice_get sets (length sets - 1) x.0 d x.1))
@@ -91,8 +91,7 @@ pub recovered_if_ok : {D : Type 0} (ghosts : Ghosts D) (old : RecoverValue D) (o
     → r.write.block < blocks_of old.volume → owner_of old.claims r.write.block ≡ Some r.writer
     → IsPut ghosts old.overlay overlay r.set r.write.block bytes result → OnOk result (IsStep ghosts.told old (value_of old.volume overlay old.window old.claims old.final) (Recovered r))
 recovered_if_ok ghosts old overlay r bytes (Ok done) same fits are sized whole window low owner is =
-    recovered_step ghosts old overlay r fits are sized whole window low owner
-    (subst (λ (x : List ℕ). IsPutIn ghosts old.overlay overlay r.set r.write.block x) same is.1)
+    grind (arith, common_steps, recovered_step ghosts old overlay r fits are sized whole window low owner)
 recovered_if_ok ghosts old overlay r bytes (Err fault) same fits are sized whole window low owner is = tt
 
 -- ## a revert that a device broke off

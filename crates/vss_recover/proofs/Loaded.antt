@@ -1,10 +1,11 @@
 -- An overlay is known by the copies in its slots: an area whose slots have the same ones, in whatever slots, is an overlay of the same
 -- recovery writes.
-use Rattle.std.proofs.Common.{◌≡◌, ◌<◌, ◌+◌, ℕ, List, [], length, ap, sym, subst, ◌∙◌, arith, true, Option, Some, None, IsPermutation}
+use Rattle.std.proofs.Common.{◌≡◌, ◌<◌, ◌+◌, ℕ, List, [], length, ap, sym, ◌∙◌, arith, true, Option, Some, None, IsPermutation}
 use Rattle.std.specs.Prelude.{slice_get, slice_index_or, is_some, IfSome}
 use Rattle.std.proofs.lemmas.Bool.{false≢true}
 use Rattle.std.proofs.lemmas.List.Sorted.{Contains-permutation, IsPermutation-refl, IsPermutation-sym}
 use Rattle.std.proofs.lemmas.Option.{get_or_from_slice_get, slice_get_within}
+use Rattle.std.proofs.lemmas.Grind.{common_steps}
 use Rattle.volume_device.specs.Blocks.{AreBlocks}
 use Rattle.write_history.specs.History.{last_bytes}
 use Rattle.write_history.specs.Slots.{Copy}
@@ -20,7 +21,7 @@ use Rattle.cow_volume.proofs.Group.{slice_get_inside}
 use Rattle.cow_volume.proofs.Members.{Has, has_at, place_of}
 use Rattle.cow_volume.proofs.Named.{key}
 use Rattle.cow_volume.proofs.Stored.{held, is-held, has-held}
-use Rattle.vss_recover.specs.Recoveries.{Recovery, Recovering, recovered, IsOfImages}
+use Rattle.vss_recover.specs.Recoveries.{Recovery, Recovering, recovered}
 use Rattle.vss_recover.specs.RecoverValue.{RecoverValue, IsOverlay, StandsFor}
 use Rattle.vss_recover.specs.TakingUp.{HasCopiesOf, taken_up, unopened}
 use Rattle.vss_recover.proofs.Standing.{sets_are}
@@ -50,14 +51,8 @@ same_slot xs ys rs qs slot set b same above row =
     let c : Copy = held (record_of 0 set b) (slot_in xs rs (0 + slot)) in
     let here = has-held 0 rs (slot_in xs rs) slot (record_of 0 set b) row (record_is_used (record_of 0 set b) above) in
     let of = is-held 0 qs (slot_in ys qs) c (moved c (copies_from 0 rs (slot_in xs rs)) (copies_from 0 qs (slot_in ys qs)) same here) in
-    let from_zero : 0 + slot ≡ slot = omega arith in
-    let from_zero_too : of.at ≡ 0 + of.at = omega arith in
-    let row_is : of.row ≡ record_of 0 set b = ap key of.is in
-    record {
-      slot = of.at;
-      row = of.row_is ∙ ap (λ (r : Record). Some r) row_is;
-      bytes_are = ap (slot_in ys qs) from_zero_too ∙ ap (λ (x : Copy). x.bytes) of.is ∙ ap (slot_in xs rs) from_zero;
-    }
+    let from_zero : 0 + slot ≡ slot = omega arith in let from_zero_too : of.at ≡ 0 + of.at = omega arith in
+    let row_is : of.row ≡ record_of 0 set b = ap key of.is in grind (arith, common_steps)
 
 -- ## all slots
 
@@ -99,5 +94,4 @@ module _ {D : Type 0} (told : D → Option (List (List ℕ))) (size : D → ℕ)
   loaded_stands volume overlay final fits whole was h stood of blocks final_is beneath =
       let held_over = loaded_overlay was.overlay overlay (blocks_of was.volume) h.recoveries of fits whole stood.overlay in
       let sets : image_sets was.volume ≡ image_sets volume = sets_are told was.volume h.volume stood.volume ∙ sym (sets_are told volume h.volume beneath) in
-      parts_stand told volume overlay final h beneath (subst (λ (n : ℕ). IsOverlay (told overlay.device) overlay.records n h.recoveries) (sym blocks) held_over)
-      (subst (λ (ss : List ℕ). IsOfImages ss h) sets stood.of_images) (sym (final_is ∙ stood.final))
+      grind (arith, common_steps, parts_stand)

@@ -1,20 +1,16 @@
 -- What is said of images is said of those that stand: after a step too.
 use Rattle.std.proofs.Common.{◌≡◌, ℕ, zero, suc, List, [], ◌∷◌, ◌++◌, ap, sym, ◌∙◌, arith, Bool, true, false, Option, Some, All}
-use Rattle.std.specs.Prelude.{◌==◌, ◌||◌, if◌then◌else◌, filter, slice_get}
+use Rattle.std.specs.Prelude.{◌==◌, ◌||◌, filter, slice_get}
 use Rattle.std.proofs.lemmas.List.Elements.{All-head, All-tail, All-cons, All-filter, filter_passes}
 use Rattle.std.proofs.lemmas.List.Folds.{list_any-append}
+use Rattle.std.proofs.lemmas.Grind.{common_steps}
+use Rattle.std.proofs.lemmas.Bool.{or_left, or_right}
 use Rattle.write_history.specs.History.{History, Image, sets_of}
 use Rattle.cow_volume.specs.Calls.{is_among}
 use Rattle.cow_volume.proofs.Group.{number_is}
 use Rattle.vss_recover.specs.Recoveries.{Recovery, Recovering, IsOfImages, kept_window, changed, opened, recovered_by, closed}
 
 -- ## sets among others
-
-or_left : (a b : Bool) → a ≡ true → (a || b) ≡ true
-or_left a b e = grind arith
-
-or_right : (a b : Bool) → b ≡ true → (a || b) ≡ true
-or_right a b e = grind arith
 
 or_rest : (t a b : Bool) → (t || a) ≡ true → (a ≡ true → b ≡ true) → (t || b) ≡ true
 or_rest t a b e rest = grind arith
@@ -41,18 +37,13 @@ among_less a s sets other e = grind (arith, among_push)
 
 pub among_filter : (p : Image → Bool) (images : List Image) (s : ℕ) → is_among s (sets_of (filter p images)) ≡ true → is_among s (sets_of images) ≡ true
 among_filter p [] s e = e
-among_filter p (i ∷ images) s e = by_test (p i) e (λ f. among_filter p images s f) where
-  by_test : (t : Bool) → is_among s (sets_of (if t then i ∷ filter p images else filter p images)) ≡ true → (is_among s (sets_of (filter p images)) ≡ true → is_among s (sets_of images) ≡ true)
-      → is_among s (sets_of (i ∷ images)) ≡ true
-  by_test true f rest = or_rest (i.set == s) (is_among s (sets_of (filter p images))) (is_among s (sets_of images)) f rest
-  by_test false f rest = among_tail s i.set (sets_of images) (rest f)
+among_filter p (i ∷ images) s e = grind (arith, common_steps, or_rest, among_tail, among_filter p images s)
 
-all_none : {X : Type 0} (P : X → Type 0) → All P []
+pub all_none : {X : Type 0} (P : X → Type 0) → All P []
 all_none P = λ k d l. absurd (omega arith)
 
 all_in : (ys xs : List ℕ) → ((s : ℕ) → is_among s xs ≡ true → is_among s ys ≡ true) → All (λ s. is_among s ys ≡ true) xs
-all_in ys [] f = all_none (λ s. is_among s ys ≡ true)
-all_in ys (x ∷ xs) f = All-cons (λ s. is_among s ys ≡ true) x xs (f x (among_head x xs)) (all_in ys xs (λ s e. f s (among_tail s x xs e)))
+all_in ys xs f = grind (arith, common_steps, all_none, among_head, among_tail)
 
 all_map : {X : Type 0} (P Q : X → Type 0) (xs : List X) → ((x : X) → P x → Q x) → All P xs → All Q xs
 all_map x0 x1 xs f all = grind arith

@@ -6,6 +6,7 @@ use Rattle.std.specs.Option.{option_and_then}
 use Rattle.std.proofs.lemmas.Bool.{cases_eq}
 use Rattle.std.proofs.lemmas.List.{length-map, length-set, take_all, get_or_default}
 use Rattle.std.proofs.lemmas.Option.{none-some, same_Some, slice_get_within, slice_get_read, get_or_from_slice_get}
+use Rattle.std.proofs.lemmas.Grind.{common_steps}
 use Rattle.diff_area.specs.AreaValue.{AreaValue}
 use Rattle.diff_area.specs.declared.table_record.Record.{Record}
 use Rattle.diff_map.specs.Copies.{copied_at, copy_of}
@@ -21,6 +22,7 @@ use Rattle.cow_volume.specs.Followed.{record_for, followed_row, followed}
 use Rattle.cow_volume.proofs.Rows.{copied_for-is, copied_for-none, record_of_row, row_at, both_from, get_inside}
 use Rattle.cow_volume.proofs.FollowedRows.{follows-of, follows-other, length-followed, followed_at, set-same}
 use Rattle.cow_volume.proofs.Renewed.{same_lists}
+use Rattle.diff_area.proofs.Gets.{get-set_same}
 
 -- what becomes of the record of an entry's copy
 abbrev pub entry_row : ℕ → (Copied → Option Copied) → Entry → Record
@@ -35,11 +37,6 @@ passed v rule [] records = records
 passed v rule (e ∷ es) records = passed v rule es (pass v rule records e)
 
 -- ## lists
-
-own_set : {X : Type 0} → (xs : List X) (k : ℕ) (y : X) → k < length xs → slice_get (slice_set xs k y) k ≡ Some y
-own_set [] k y l = absurd (omega arith)
-own_set (x ∷ xs) zero y l = refl
-own_set (x ∷ xs) (suc k) y l = own_set xs k y (omega arith)
 
 other_set : {X : Type 0} → (xs : List X) (k j : ℕ) (y : X) → k ≢ j → slice_get (slice_set xs k y) j ≡ slice_get xs j
 other_set [] k j y d = refl
@@ -74,7 +71,7 @@ module _ (v : ℕ) (rule : Copied → Option Copied) where
   untouched (e ∷ es) rs k none = untouched es (pass v rule rs e) k (λ i f at. none (suc i) f at) ∙ other_set rs e.slot k (entry_row v rule e) (none zero e refl)
 
   set_own : (rs : List Record) (e : Entry) (k : ℕ) (y : Record) → k < length rs → e.slot ≡ k → entry_row v rule e ≡ y → slice_get (pass v rule rs e) k ≡ Some y
-  set_own rs e k y inside own is = grind (arith, own_set)
+  set_own rs e k y inside own is = grind (arith, get-set_same)
 
   stays : (es : List Entry) (rs : List Record) (k : ℕ) (y : Record) → slice_get rs k ≡ Some y → ((i : ℕ) (e : Entry) → slice_get es i ≡ Some e → e.slot ≡ k → entry_row v rule e ≡ y)
       → slice_get (passed v rule es rs) k ≡ Some y
@@ -112,13 +109,11 @@ module _ (v : ℕ) (rule : Copied → Option Copied) (entries : List Entry) (rec
   apart i j e f a b low sets blocks =
       let up : place (get_or entries i e) < place (get_or entries j e) = index.in_order i j e low (slice_get_within entries j f b) in
       let first : place (get_or entries i e) ≡ place e = ap place (entry_is i e e a) in
-      let second : place (get_or entries j e) ≡ place f = ap place (entry_is j f e b) in
-      omega arith
+      let second : place (get_or entries j e) ≡ place f = ap place (entry_is j f e b) in grind (arith, common_steps)
 
   differ : (i j : ℕ) (e f : Entry) → slice_get entries i ≡ Some e → slice_get entries j ≡ Some f → i < j → e.slot ≢ f.slot
   differ i j e f a b low same =
-      let is = same_Some (copy_of e.set e.block) (copy_of f.set f.block) (sym (noted_at i e a) ∙ ap (copied_at (map (copied_for v) records)) same ∙ noted_at j f b) in
-      apart i j e f a b low (ap (λ (x : Copied). x.set) is) (ap (λ (x : Copied). x.block) is)
+      grind (arith, common_steps, same_Some (copy_of e.set e.block) (copy_of f.set f.block), noted_at i e a, noted_at j f b, apart i j e f a b low)
 
   -- until it is passed, its record stands
   pub still_there : (i : ℕ) (e : Entry) → slice_get entries i ≡ Some e → slice_get (passed v rule (take i entries) records) e.slot ≡ Some (record_of v e.set e.block)
@@ -192,10 +187,9 @@ pub slot_within : {D : Type 0} (first old : AreaValue D) (v : ℕ) (rule : Copie
     → slice_get entries i ≡ Some e → old ≡ with_records (passed v rule (take i entries) first.records) first
     → e.slot < length old.records
 slot_within first old v rule entries i e index at was =
-    let same : length old.records ≡ length (passed v rule (take i entries) first.records) = ap (λ a. length a.records) was in
     let long = length-passed v rule (take i entries) first.records in
     let inside = slice_get_within first.records e.slot (record_of v e.set e.block) (record_at v rule entries first.records index i e at) in
-    omega arith
+    grind (arith, common_steps, length-passed, slice_get_within, record_at)
 
 -- all entries were passed
 pub passes_end : {D : Type 0} (first old : AreaValue D) (v : ℕ) (rule : Copied → Option Copied) (entries : List Entry) (n : ℕ) → IsIndex entries (map (copied_for v) first.records)

@@ -1,7 +1,8 @@
 -- What the recovery writes of an image are after one more, and after images went.
-use Rattle.std.proofs.Common.{◌≡◌, ◌⊎◌, ℕ, List, [], ◌∷◌, ◌++◌, refl, ap, sym, ◌∙◌, Bool, true, false, All, arith}
-use Rattle.std.specs.Prelude.{◌==◌, ◌||◌, if◌then◌else◌, filter}
+use Rattle.std.proofs.Common.{◌≡◌, ◌⊎◌, ℕ, List, [], ◌∷◌, ◌++◌, refl, ap, ◌∙◌, Bool, true, false, All, arith}
+use Rattle.std.specs.Prelude.{◌==◌, if◌then◌else◌, filter}
 use Rattle.std.proofs.lemmas.List.Elements.{All-head, All-tail}
+use Rattle.std.proofs.lemmas.Grind.{common_steps}
 use Rattle.write_history.specs.History.{Write, last_bytes, names}
 use Rattle.cow_volume.specs.Calls.{is_among}
 use Rattle.cow_volume.proofs.Group.{same_number, number_is, number_is_other}
@@ -20,29 +21,13 @@ last-push b x (v ∷ ws) w = last-push b (if v.block == b then v.bytes else x) w
 
 pub last_if_named : (b : ℕ) (x y : List ℕ) (ws : List Write) → names ws b ≡ true → last_bytes b x ws ≡ last_bytes b y ws
 last_if_named b x y [] e = cc
-last_if_named b x y (w ∷ ws) e = by_test (w.block == b) e (λ f. last_if_named b x y ws f) where
-  by_test : (t : Bool) → (t || names ws b) ≡ true → (names ws b ≡ true → last_bytes b x ws ≡ last_bytes b y ws)
-      → last_bytes b (if t then w.bytes else x) ws ≡ last_bytes b (if t then w.bytes else y) ws
-  by_test true f rest = refl
-  by_test false f rest = rest f
-
-pub last_if_unnamed : (b : ℕ) (x : List ℕ) (ws : List Write) → names ws b ≡ false → last_bytes b x ws ≡ x
-last_if_unnamed b x [] e = refl
-last_if_unnamed b x (w ∷ ws) e = by_test (w.block == b) e (λ f. last_if_unnamed b x ws f) where
-  by_test : (t : Bool) → (t || names ws b) ≡ false → (names ws b ≡ false → last_bytes b x ws ≡ x) → last_bytes b (if t then w.bytes else x) ws ≡ x
-  by_test true f rest = cc
-  by_test false f rest = rest f
+last_if_named b x y (w ∷ ws) e = grind (arith, common_steps, last_if_named b x y ws)
 
 pub names-push_own : (ws : List Write) (w : Write) → names (ws ++ w ∷ []) w.block ≡ true
-names-push_own [] w = ap (λ (t : Bool). t || false) (number_is w.block)
-names-push_own (v ∷ ws) w = by_test (v.block == w.block) (names-push_own ws w) where
-  by_test : (t : Bool) → names (ws ++ w ∷ []) w.block ≡ true → (t || names (ws ++ w ∷ []) w.block) ≡ true
-  by_test true e = refl
-  by_test false e = e
+names-push_own ws w = grind (arith, common_steps, number_is)
 
 pub names-push_other : (b : ℕ) (ws : List Write) (w : Write) → (w.block == b) ≡ false → names (ws ++ w ∷ []) b ≡ names ws b
-names-push_other b [] w e = ap (λ (t : Bool). t || false) e
-names-push_other b (v ∷ ws) w e = ap (λ (t : Bool). (v.block == b) || t) (names-push_other b ws w e)
+names-push_other b ws w e = grind (arith, common_steps)
 
 -- ## one recovery write more
 
@@ -85,17 +70,11 @@ recovered_other set q rs e = ap (λ (t : Bool). if t then q.write ∷ recovered 
 
 pub recovered-kept : (sets : List ℕ) (set : ℕ) (rs : List Recovery) → is_among set sets ≡ true → recovered set (kept sets rs) ≡ recovered set rs
 recovered-kept sets set [] e = refl
-recovered-kept sets set (q ∷ rs) e = by_test (is_among q.set sets) refl (recovered-kept sets set rs e) where
-  by_test : (t : Bool) → is_among q.set sets ≡ t → recovered set (kept sets rs) ≡ recovered set rs → recovered set (if t then q ∷ kept sets rs else kept sets rs) ≡ recovered set (q ∷ rs)
-  by_test true f rest = ap (λ (ws : List Write). if q.set == set then q.write ∷ ws else ws) rest
-  by_test false f rest = rest ∙ sym (recovered_other set q rs (number_is_other q.set set (λ same. (let g : is_among q.set sets ≡ is_among set sets = ap (λ s. is_among s sets) same in absurd cc))))
+recovered-kept sets set (q ∷ rs) e = grind (arith, common_steps, recovered_other, number_is_other, recovered-kept sets set rs e)
 
 pub recovered-gone : (sets : List ℕ) (set : ℕ) (rs : List Recovery) → is_among set sets ≡ false → recovered set (kept sets rs) ≡ []
 recovered-gone sets set [] e = refl
-recovered-gone sets set (q ∷ rs) e = by_test (is_among q.set sets) refl (recovered-gone sets set rs e) where
-  by_test : (t : Bool) → is_among q.set sets ≡ t → recovered set (kept sets rs) ≡ [] → recovered set (if t then q ∷ kept sets rs else kept sets rs) ≡ []
-  by_test true f rest = recovered_other set q (kept sets rs) (not_both sets q.set set f e) ∙ rest
-  by_test false f rest = rest
+recovered-gone sets set (q ∷ rs) e = grind (arith, common_steps, recovered_other, not_both, recovered-gone sets set rs e)
 
 pub none_recovered : (sets : List ℕ) (set : ℕ) (rs : List Recovery) → All (λ (r : Recovery). is_among r.set sets ≡ true) rs → is_among set sets ≡ false → recovered set rs ≡ []
 none_recovered sets set [] all e = refl

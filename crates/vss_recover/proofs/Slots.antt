@@ -1,6 +1,7 @@
 -- What is put into a slot of an overlay.
 use Rattle.std.proofs.Common.{◌≡◌, ◌≤◌, ℕ, List, map, refl, ap, sym, subst, ◌∙◌, arith, Bool, true, false, not, ◌&&◌, Some, inl, inr, length}
 use Rattle.std.specs.Prelude.{slice_get, slice_set, Result, Ok, Err}
+use Rattle.std.proofs.lemmas.Bool.{and_right}
 use Rattle.slot_pool.specs.Slots.{free_count}
 use Rattle.diff_area.specs.AreaValue.{AreaValue, KeepsTable}
 use Rattle.diff_area.specs.Places.{place_of_slot}
@@ -21,14 +22,11 @@ use Rattle.volume_device.specs.declared.device.Device.{Ghosts}
 
 -- ## there is room
 
-and_off : (t f : Bool) → f ≡ false → (t && f) ≡ false
-and_off t f e = grind arith
-
 pub room_if_chosen : (records : List Record) (set b slot : ℕ) → IsChosen records (record_of 0 set b) slot → lacks_room records set b ≡ false
 room_if_chosen records set b slot was = elim was [
   | inl own ↦ ap (λ (t : Bool). not t && is_full records) (has_found records slot (record_of 0 set b) own)
   | inr none ↦ (let some = some_free (map is_free records) slot (slice_get_map is_free records slot free none.0) in
-      and_off (not (has_record records (record_of 0 set b))) (is_full records) (not_full_if records (free_count (map is_free records)) refl (λ e. absurd (omega arith))))
+      and_right (not (has_record records (record_of 0 set b))) (is_full records) (not_full_if records (free_count (map is_free records)) refl (λ e. absurd (omega arith))))
 ]
 
 pub room_if_free : (records : List Record) (set b slot : ℕ) → slice_get records slot ≡ Some free → has_record records (record_of 0 set b) ≡ false → lacks_room records set b ≡ false

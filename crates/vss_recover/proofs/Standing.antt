@@ -3,12 +3,13 @@ use Rattle.std.proofs.Common.{◌≡◌, ◌<◌, ℕ, zero, suc, List, [], ◌�
 use Rattle.std.specs.Prelude.{if◌then◌else◌, ◌==◌, ◌||◌}
 use Rattle.std.proofs.lemmas.List.Elements.{All-head, All-tail}
 use Rattle.std.proofs.lemmas.Bool.{lt-ltb}
+use Rattle.std.proofs.lemmas.Grind.{common_steps}
 use Rattle.write_history.specs.History.{History, Image, sets_of, after_set}
 use Rattle.diff_area.specs.AreaValue.{AreaValue}
 use Rattle.diff_area.specs.declared.table_record.Record.{Record}
 use Rattle.cow_volume.specs.GroupValue.{GroupValue}
-use Rattle.cow_volume.specs.StandsFor.{told_in, IsVolume}
-use Rattle.cow_volume.specs.Calls.{is_among, sets_in, blocks_in}
+use Rattle.cow_volume.specs.StandsFor.{IsVolume}
+use Rattle.cow_volume.specs.Calls.{is_among}
 use Rattle.cow_volume.specs.OneVolume.{StandsForOne, blocks_of, image_sets, without_up_to}
 use Rattle.cow_volume.proofs.Group.{place_at, same_number}
 use Rattle.vss_recover.specs.Recoveries.{Recovery, Recovering, IsOfImages, kept, kept_window, kept_final, changed}
@@ -30,17 +31,7 @@ pub record IsOne {D : Type 0} (told : D → Option (List (List ℕ))) (g : Group
   pub volume : IsVolume blocks slots g.area.records 0 n (image_sets g) h
 
 pub one_of_it : {D : Type 0} (told : D → Option (List (List ℕ))) (g : GroupValue D) (h : History) → StandsForOne told g h → IsOne told g h
-one_of_it told g h stands =
-    let one = stands.histories in
-    let place = place_at told g (h ∷ []) 0 stands (omega arith) in
-    record {
-      n = place.blocks;
-      slots = told g.area.device;
-      blocks = told_in (told g.area.device) (told place.device);
-      blocks_is = ap blocks_in place.blocks_at;
-      volume = subst (λ (sets : List ℕ). IsVolume (told_in (told g.area.device) (told place.device)) (told g.area.device) g.area.records 0 place.blocks sets h)
-          (sym (ap sets_in place.sets_at)) place.stands;
-    }
+one_of_it told g h stands = grind (arith, common_steps, place_at told g (h ∷ []) 0 stands (omega arith))
 
 pub sets_are : {D : Type 0} (told : D → Option (List (List ℕ))) (g : GroupValue D) (h : History) → StandsForOne told g h → image_sets g ≡ sets_of h.images
 sets_are told g h stands = (one_of_it told g h stands).volume.sets_are
@@ -99,8 +90,7 @@ pub quiet_stands : {D : Type 0} (told : D → Option (List (List ℕ))) (old new
     → blocks_of new.volume ≡ blocks_of old.volume
     → new.overlay.records ≡ old.overlay.records → told new.overlay.device ≡ told old.overlay.device → new.window ≡ old.window → new.claims ≡ old.claims → new.final ≡ old.final → StandsFor told new h
 quiet_stands told old new h stood stands blocks records slots window claims final =
-    beside_stands told old new h.volume h stood stands blocks
-    (subst (λ (sets : List ℕ). IsOfImages sets h) (sets_are told old.volume h.volume stood.volume) stood.of_images) records slots window claims final
+    grind (arith, common_steps, beside_stands told old new h.volume h stood stands blocks, sets_are told old.volume h.volume stood.volume)
 
 -- ## images that go
 

@@ -1,6 +1,6 @@
 -- What is kept where the records of an overlay are written to its device, and for what a volume stands after that.
 use Rattle.std.proofs.Common.{◌≡◌, ◌≤◌, ◌+◌, ℕ, List, ◌∷◌, [], take, length, ap, sym, subst, ◌∙◌, arith}
-use Rattle.std.specs.Prelude.{slice_get, option_map, Result, Ok, Err}
+use Rattle.std.specs.Prelude.{slice_get, option_map, Result}
 use Rattle.std.proofs.lemmas.List.{length-take-le}
 use Rattle.write_history.specs.History.{last_bytes}
 use Rattle.diff_area.specs.AreaValue.{AreaValue, KeepsTable, AreInPart, with_first}
@@ -49,7 +49,6 @@ module _ {D : Type 0} (ghosts : Ghosts D) where
   slots_part old new table later part =
       let same = length-table old.volumes old.records in
       let short = length-take-le part.count (table_blocks old.volumes old.records) part.within in
-      let within = part.within in
       slots_first old new (take part.count (table_blocks old.volumes old.records)) table later (omega arith) part.blocks
 
   -- and then only a count may have changed
@@ -60,8 +59,7 @@ module _ {D : Type 0} (ghosts : Ghosts D) where
   -- all of the table was written before its device was brought to where it lasts, or failed
   pub flushed_table : {E : Type 0} (old mid new : AreaValue D) (result : Result Unit E) → ghosts.told mid.device ≡ option_map (with_first (table_blocks old.volumes old.records)) (ghosts.told old.device)
       → ghosts.told new.device ≡ ghosts.told mid.device → IsOverlayTable ghosts.told old new result
-  flushed_table old mid new (Ok done) written same = same ∙ written
-  flushed_table old mid new (Err fault) written same = written_whole (ghosts.told old.device) (ghosts.told mid.device) (ghosts.told new.device) (table_blocks old.volumes old.records) written same
+  flushed_table old mid new result written same = grind (arith, written_whole)
 
   -- ## the volume
 

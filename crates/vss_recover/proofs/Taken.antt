@@ -1,8 +1,9 @@
 -- The calls as steps: what a volume stands for after each of them.
-use Rattle.std.proofs.Common.{◌≡◌, ◌<◌, ◌-◌, ℕ, zero, suc, List, [], ◌∷◌, ◌++◌, length, replicate, refl, ap, sym, subst, ◌∙◌, arith, Bool, true, false, not, ◌&&◌, Option, Some, None, All}
-use Rattle.std.specs.Prelude.{slice_get, slice_set, IfSome, is_some, if◌then◌else◌, ◌==◌, ◌||◌, Ok}
+use Rattle.std.proofs.Common.{◌≡◌, ◌<◌, ◌-◌, ℕ, zero, suc, List, [], ◌∷◌, ◌++◌, length, replicate, refl, ap, sym, subst, ◌∙◌, arith, true, false, not, ◌&&◌, Option, Some, None, All}
+use Rattle.std.specs.Prelude.{slice_get, slice_set, IfSome, is_some, ◌==◌, Ok}
 use Rattle.std.proofs.lemmas.List.Elements.{All-head, All-tail}
 use Rattle.std.proofs.lemmas.Option.{slice_get_within}
+use Rattle.std.proofs.lemmas.Grind.{common_steps}
 use Rattle.volume_device.specs.Blocks.{AreBlocks}
 use Rattle.volume_device.specs.declared.device.Device.{Ghosts}
 use Rattle.write_history.specs.History.{History, Write, Image, content, last_bytes, names, sets_of, point_in, written, cut, dropped, reverted, reverted_in_part}
@@ -14,7 +15,6 @@ use Rattle.cow_volume.specs.GroupValue.{GroupValue}
 use Rattle.cow_volume.specs.StandsFor.{record_of}
 use Rattle.cow_volume.specs.Calls.{is_among, blocks_in}
 use Rattle.cow_volume.specs.Changes.{has_record}
-use Rattle.cow_volume.specs.Room.{is_full}
 use Rattle.cow_volume.specs.OneVolume.{StandsForOne, blocks_of, image_sets, tells, IsOneWritten, IsOneUnwritten, IsOneDropped, IsOneReverted, IsOneRevertedInPart, IsOneShown}
 use Rattle.cow_volume.proofs.Group.{number_is_other}
 use Rattle.cow_volume.proofs.Writing.{slot_room}
@@ -26,12 +26,14 @@ use Rattle.vss_recover.specs.RecoverValue.{RecoverValue, StandsFor, IsOverlay}
 use Rattle.vss_recover.specs.Steps.{IsNewest, IsAllowed, after}
 use Rattle.vss_recover.specs.Steps.Step.{Wrote, Evicted, Cut, Dropped, Reverted, RevertedInPart, Opened, Recovered, Closed}
 use Rattle.vss_recover.specs.Calls.{IsStep, IsSettled, IsBeside, IsSettledUpTo, IsShown}
-use Rattle.vss_recover.proofs.Recovered.{last_if_named, last_if_unnamed, none_recovered}
+use Rattle.vss_recover.proofs.Recovered.{last_if_named, none_recovered}
 use Rattle.vss_recover.proofs.Overlays.{set_one, put_overlay}
-use Rattle.vss_recover.proofs.OfImages.{among_at, of_more, of_opened, of_recovered, of_closed}
+use Rattle.vss_recover.proofs.OfImages.{among_at, of_more, of_opened, of_recovered, of_closed, all_none}
 use Rattle.vss_recover.proofs.Standing.{one_of_it, sets_are, above_zero, beside_stands, settled_stands, settled_up_to_stands}
 use Rattle.cow_volume.proofs.Members.{AreApart as AreApartList}
 use Rattle.vss_recover.proofs.Counts.{counted_in, counted_all, apart_sets, among_has, has_slot}
+use Rattle.diff_area.proofs.Valid.{and_left, and_right}
+use Rattle.cow_volume.proofs.Reading.{unnamed_same}
 
 -- ## at first
 
@@ -43,13 +45,10 @@ free_row (suc k) (suc slot) r e = free_row k slot r e
 none_free : (k slot set b : ℕ) (records : List Record) → records ≡ replicate k free → 0 < set → slice_get records slot ≡ Some (record_of 0 set b) → ⊥
 none_free k slot set b records are l e = grind (arith, free_row)
 
-nothing : {X : Type 0} (P : X → Type 0) → All P []
-nothing P = λ k d l. absurd (omega arith)
-
 pub new_stands : {D : Type 0} (told : D → Option (List (List ℕ))) (volume : GroupValue D) (overlay : AreaValue D) (h : History) → overlay.records ≡ replicate (length overlay.records) free
     → StandsForOne told volume h
     → StandsFor told (record { volume = volume; overlay = overlay; window = None; claims = []; final = [] }) (unrecovered h)
-new_stands told volume overlay h are stands = grind (arith, none_free, nothing)
+new_stands told volume overlay h are stands = grind (arith, none_free, all_none)
 
 -- ## counts
 
@@ -77,30 +76,18 @@ pub room_is : {D : Type 0} (told : D → Option (List (List ℕ))) (v : RecoverV
     → AreRecords v.overlay.volumes v.overlay.records → v.window ≡ Some set → b < blocks_of v.volume
     → lacks_room v.overlay.records set b ≡ (not (names (recovered set h.recoveries) b) && (all_recovered (blocks_of v.volume) h.recoveries (image_sets v.volume) == length v.overlay.records))
 room_is told v h set b stood fits are window low =
-    let among = stood.of_images.window set (sym stood.window ∙ window) in
-    let above = above_zero told v.volume h.volume set stood.volume among in
-    ap (λ (t : Bool). not t && is_full v.overlay.records) (has_slot (told v.overlay.device) v.overlay.records (blocks_of v.volume) h.recoveries set b stood.overlay above low)
-    ∙ ap (λ (k : ℕ). not (names (recovered set h.recoveries) b) && (k == length v.overlay.records)) (used_pairs told v h stood fits are)
+    let among = stood.of_images.window set (sym stood.window ∙ window) in let above = above_zero told v.volume h.volume set stood.volume among in
+    grind (arith, common_steps, has_slot, used_pairs)
 
 -- ## reads
 
 point_among : (images : List Image) (set p : ℕ) → point_in set images ≡ Some p → is_among set (sets_of images) ≡ true
 point_among [] set p e = cc
-point_among (i ∷ images) set p e = by_test (i.set == set) e (λ f. point_among images set p f) where
-  by_test : (t : Bool) → (if t then Some i.point else point_in set images) ≡ Some p → (point_in set images ≡ Some p → is_among set (sets_of images) ≡ true)
-      → (t || is_among set (sets_of images)) ≡ true
-  by_test true f rest = refl
-  by_test false f rest = rest f
+point_among (i ∷ images) set p e = grind (arith, common_steps, point_among images set p)
 
 pub image_of_point : {D : Type 0} (told : D → Option (List (List ℕ))) (g : GroupValue D) (h : History) (set p : ℕ) → StandsForOne told g h → point_in set h.images ≡ Some p
     → is_among set (image_sets g) ≡ true
 image_of_point told g h set p stands e = ap (is_among set) (sets_are told g h stands) ∙ point_among h.images set p e
-
-and_first : (s t : Bool) → (s && t) ≡ true → s ≡ true
-and_first s t e = grind arith
-
-and_second : (s t : Bool) → (s && t) ≡ true → t ≡ true
-and_second s t e = grind arith
 
 told_bytes : (o : Option (List (List ℕ))) (at : ℕ) (x y : List ℕ) → is_some o ≡ true → IfSome o (λ blocks. slice_get blocks at ≡ Some x) → IfSome o (λ blocks. slice_get blocks at ≡ Some y) → x ≡ y
 told_bytes o at x y some a b = grind arith
@@ -111,7 +98,7 @@ pub shown_slot : {D : Type 0} (told : D → Option (List (List ℕ))) (v : Recov
 shown_slot told v set b slot bytes at block = λ h p stood all point. (
     let above = above_zero told v.volume h.volume set stood.volume (image_of_point told v.volume h.volume set p stood.volume point) in
     told_bytes (told v.overlay.device) (place_of_slot (length v.overlay.records) slot) bytes (last_bytes b [] (recovered set h.recoveries))
-    (and_second (tells told v.volume) (is_some (told v.overlay.device)) all) block (stood.overlay.copied slot set b above at)
+    (and_right (tells told v.volume) (is_some (told v.overlay.device)) all) block (stood.overlay.copied slot set b above at)
     ∙ last_if_named b [] (content h.volume.writes p b) (recovered set h.recoveries) (stood.overlay.named slot set b above at))
 
 -- each other one is the volume's image's
@@ -119,8 +106,8 @@ pub shown_below : {D : Type 0} (told : D → Option (List (List ℕ))) (v : Reco
     → b < blocks_of v.volume → IsOneShown told v.volume set b bytes → IsShown told v set b bytes
 shown_below told v set b bytes none low is = λ h p stood all point. (
     let above = above_zero told v.volume h.volume set stood.volume (image_of_point told v.volume h.volume set p stood.volume point) in
-    is h.volume p stood.volume (and_first (tells told v.volume) (is_some (told v.overlay.device)) all) point
-    ∙ sym (last_if_unnamed b (content h.volume.writes p b) (recovered set h.recoveries)
+    is h.volume p stood.volume (and_left (tells told v.volume) (is_some (told v.overlay.device)) all) point
+    ∙ sym (unnamed_same b (content h.volume.writes p b) (recovered set h.recoveries)
     (sym (has_slot (told v.overlay.device) v.overlay.records (blocks_of v.volume) h.recoveries set b stood.overlay above low) ∙ none above)))
 
 -- ## the volume's own calls
@@ -145,8 +132,7 @@ evicted_step ghosts old new b fault is settled = λ h stood. (
 not_below : (sets : List ℕ) (set : ℕ) → All (λ s. s < set) sets → is_among set sets ≡ false
 not_below [] set all = refl
 not_below (s ∷ sets) set all =
-    let l = All-head (λ s. s < set) s sets all in
-    ap (λ (t : Bool). t || is_among set sets) (number_is_other s set (λ e. absurd (omega arith))) ∙ not_below sets set (All-tail (λ s. s < set) s sets all)
+    let l = All-head (λ s. s < set) s sets all in grind (arith, common_steps, number_is_other, not_below sets set (All-tail (λ s. s < set) s sets all))
 
 pub cut_step : {D : Type 0} (told : D → Option (List (List ℕ))) (old new : RecoverValue D) (set : ℕ) → new.volume.area ≡ old.volume.area → image_sets new.volume ≡ image_sets old.volume ++ set ∷ []
     → IsBeside old new
@@ -242,7 +228,6 @@ recovered_step ghosts old overlay r fits are sized whole window low owner is = �
     let one = set_one old.overlay.volumes old.overlay.records is.slot (record_of 0 r.set r.write.block) are
     (λ e. (let none : r.set ≡ 0 = ap (λ (x : Record). x.set) e in absurd (omega arith))) is.was in
     let within = slice_get_within (slice_set old.overlay.records is.slot (record_of 0 r.set r.write.block)) is.slot (record_of 0 r.set r.write.block) one.at in
-    let long = one.long in
     let room = slot_room (ghosts.told old.overlay.device) (length old.overlay.records) is.slot (subst (λ (k : ℕ). IfSome (ghosts.told old.overlay.device) (AreBlocks k)) sized whole) (omega arith) in (
       (mine, low, ap (λ (cs : List Claim). owner_of cs r.write.block) (sym stood.claims) ∙ owner),
       record {

@@ -2,12 +2,13 @@
 -- its records, with bytes of which nothing is said.
 use Rattle.std.proofs.Common.{◌≡◌, ◌<◌, ◌≤◌, ◌+◌, ℕ, zero, suc, List, [], ◌∷◌, length, map, refl, ap, sym, subst, ◌∙◌, arith, Bool, true, false, Option, Some, None, inl, inr, All}
 use Rattle.std.specs.List.{insert}
-use Rattle.std.specs.Prelude.{Result, IfOk, slice_get, slice_set, if◌then◌else◌, nat_lt, ◌==◌, ◌||◌}
+use Rattle.std.specs.Prelude.{Result, IfOk, slice_get, slice_set, if◌then◌else◌, nat_lt, ◌==◌}
 use Rattle.std.proofs.lemmas.Bool.{false≢true, lt-ltb}
 use Rattle.std.proofs.lemmas.Bool.Decides.{nat_tests}
 use Rattle.std.proofs.lemmas.List.Edits.{length-insert}
 use Rattle.std.proofs.lemmas.List.Elements.{All-nil, All-head, All-tail, filter_passes}
 use Rattle.std.proofs.lemmas.Option.{none-some, same_Some}
+use Rattle.std.proofs.lemmas.Grind.{common_steps}
 use Rattle.write_history.specs.History.{History, Write, names}
 use Rattle.diff_area.specs.AreaValue.{AreaValue}
 use Rattle.diff_area.specs.Records.{is_free, AreRecords}
@@ -51,11 +52,7 @@ none_yet (r ∷ rs) zero c e = none-some c e
 none_yet (r ∷ rs) (suc slot) c e = none_yet rs slot c e
 
 pub index_begun : (entries : List Entry) (records : List Record) → entries ≡ [] → IsIndex entries (rows_to 0 records)
-index_begun entries records none = subst (λ (es : List Entry). IsIndex es (rows_to 0 records)) (sym none) (record {
-  in_order = λ i j d low inside. absurd (omega arith);
-  each = λ k d inside. absurd (omega arith);
-  all = λ slot c row. absurd (none_yet records slot c row);
-})
+index_begun entries records none = grind (arith, common_steps, none_yet records)
 
 pub index_all : (entries : List Entry) (records : List Record) (k : ℕ) → length records ≤ k → IsIndex entries (rows_to k records) → IsIndex entries (map (copied_for 0) records)
 index_all entries records k past is = subst (λ (rows : List (Option Copied)). IsIndex entries rows) (mixed-all (copied_for 0) unnoted k records past) is
@@ -63,8 +60,7 @@ index_all entries records k past is = subst (λ (rows : List (Option Copied)). I
 -- the next record is free
 pub index_same : (entries : List Entry) (records : List Record) (k : ℕ) (r : Record) → slice_get records k ≡ Some r → is_free r ≡ true → IsIndex entries (rows_to k records)
     → IsIndex entries (rows_to (k + 1) records)
-index_same entries records k r at empty is =
-    subst (λ (rows : List (Option Copied)). IsIndex entries rows) (sym (mixed-same (copied_for 0) unnoted k records r at (ap (copied_for 0) (free_is r empty) ∙ copied_for-free 0))) is
+index_same entries records k r at empty is = grind (arith, common_steps, mixed-same (copied_for 0) unnoted k records r, free_is r empty, copied_for-free 0)
 
 module _ (volumes : List ℕ) (records : List Record) (one : length volumes ≡ 1) (are : AreRecords volumes records) (k : ℕ) (r : Record) (at : slice_get records k ≡ Some r)
     (is_used : is_free r ≡ false) where
@@ -132,12 +128,7 @@ more_made t r rs set b e = grind arith
 
 made_named : (set b slot : ℕ) (records : List Record) → 0 < set → slice_get records slot ≡ Some (record_of 0 set b) → names (recovered set (made records)) b ≡ true
 made_named set b slot [] above at = absurd (none-some (record_of 0 set b) at)
-made_named set b zero (r ∷ rs) above at =
-    let is : r ≡ record_of 0 set b = same_Some r (record_of 0 set b) at in
-    ap (λ (x : Record). names (recovered set (made (x ∷ rs))) b) is
-    ∙ ap (λ (t : Bool). names (recovered set (if t then one_made (record_of 0 set b) ∷ made rs else made rs)) b) (lt-ltb 0 set above)
-    ∙ ap (λ (t : Bool). names (if t then unknown b ∷ recovered set (made rs) else recovered set (made rs)) b) (number_is set)
-    ∙ ap (λ (t : Bool). t || names (recovered set (made rs)) b) (number_is b)
+made_named set b zero (r ∷ rs) above at = grind (arith, common_steps, same_Some, lt-ltb, number_is)
 made_named set b (suc slot) (r ∷ rs) above at = more_made (nat_lt 0 r.set) r rs set b (made_named set b slot rs above at)
 
 -- a slot has a record of the block of the image of a set
@@ -158,15 +149,7 @@ block_here r rs set b some own is = grind arith
 -- a block that they name has a record
 made_recorded : (set b : ℕ) (records : List Record) → names (recovered set (made records)) b ≡ true → HasBlock records set b
 made_recorded set b [] e = absurd (false≢true e)
-made_recorded set b (r ∷ rs) e = by_tests (nat_lt 0 r.set) refl (r.set == set) refl (r.block == b) refl e (λ more. block_next r rs set b (made_recorded set b rs more)) where
-  by_tests : (t : Bool) → nat_lt 0 r.set ≡ t → (s : Bool) → (r.set == set) ≡ s → (u : Bool) → (r.block == b) ≡ u
-      → names (recovered set (if t then one_made r ∷ made rs else made rs)) b ≡ true → (names (recovered set (made rs)) b ≡ true → HasBlock (r ∷ rs) set b) → HasBlock (r ∷ rs) set b
-  by_tests false none s own u is more further = further more
-  by_tests true some false own u is more further = further (sym (ap (λ (x : Bool). names (if x then unknown r.block ∷ recovered set (made rs) else recovered set (made rs)) b) own) ∙ more)
-  by_tests true some true own true is more further = block_here r rs set b some own is
-  by_tests true some true own false is more further =
-      further (sym (ap (λ (x : Bool). names (if x then unknown r.block ∷ recovered set (made rs) else recovered set (made rs)) b) own ∙ ap (λ (x : Bool). x || names (recovered set (made rs)) b) is)
-      ∙ more)
+made_recorded set b (r ∷ rs) e = grind (arith, common_steps, block_next, block_here, made_recorded set b rs)
 
 all_if : (P : Recovery → Type 0) (t : Bool) (r : Recovery) (rs : List Recovery) → (t ≡ true → P r) → All P rs → All P (if t then r ∷ rs else rs)
 all_if x0 t r rs here rest = grind arith
@@ -223,14 +206,7 @@ made_stand told volume overlay final h fits are have none stood =
 pub parts_stand : {D : Type 0} (told : D → Option (List (List ℕ))) (volume : GroupValue D) (overlay : AreaValue D) (final : List ℕ) (h : Recovering) → StandsForOne told volume h.volume
     → IsOverlay (told overlay.device) overlay.records (blocks_of volume) h.recoveries → IsOfImages (image_sets volume) h → h.final ≡ final
     → StandsFor told (taken_up volume overlay final) (unopened h)
-parts_stand told volume overlay final h stood held of final_is = record {
-  volume = stood;
-  overlay = held;
-  of_images = record { recoveries = of.recoveries; window = λ set e. absurd (none-some set e); final = of.final };
-  window = refl;
-  claims = refl;
-  final = ap (kept_final (image_sets volume)) (sym final_is) ∙ filter-all (λ s. is_among s (image_sets volume)) h.final of.final;
-}
+parts_stand told volume overlay final h stood held of final_is = grind (arith, none-some, filter-all)
 
 -- what is said of a volume is said of its parts
 pub of_parts : {D : Type 0} (told : D → Option (List (List ℕ))) (v : RecoverValue D) (volume : GroupValue D) (overlay : AreaValue D) (h : Recovering) → volume ≡ v.volume → overlay ≡ v.overlay
@@ -258,7 +234,6 @@ pub never_refused : (slots : Option (List (List ℕ))) (sets volumes : List ℕ)
 never_refused slots sets volumes records n h OutOfMemory one are over of refused = refl
 never_refused slots sets volumes records n h (NoImage slot set) one are over of refused =
     let r = refused.row in
-    let is_used = refused.used in
     elim (each_used volumes records one are slot r refused.row_is) [
       | inl empty ↦ (let none : is_free r ≡ true = ap is_free empty in absurd cc)
       | inr both ↦ (

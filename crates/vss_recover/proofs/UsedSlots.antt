@@ -5,7 +5,7 @@ use Rattle.std.specs.List.{AllWithin, filter, filter_map, cons_option, insert}
 use Rattle.std.specs.Option.{option_and_then}
 use Rattle.std.specs.Prelude.{slice_get, slice_set, count_by, if◌then◌else◌, nat_lt, ◌==◌, ◌&&◌}
 use Rattle.std.specs.declared.alloc.Global.{Global}
-use Rattle.std.proofs.lemmas.Bool.{false≢true, cases_eq, lt-ltb}
+use Rattle.std.proofs.lemmas.Bool.{false≢true, cases_eq, lt-ltb, and_from}
 use Rattle.std.proofs.lemmas.Bool.Decides.{nat_tests}
 use Rattle.std.proofs.lemmas.List.{map-set, length-map, length-set}
 use Rattle.std.proofs.lemmas.List.Elements.{All-head, All-tail}
@@ -74,7 +74,6 @@ each_used volumes records one are k r at = by_test (is_free r) refl where
   by_test true e = inl (free_is r e)
   by_test false e =
       let used = are.each k r at (λ same. false≢true (sym e ∙ ap is_free same)) in
-      let low = used.volume in
       inr (used.set, omega arith)
 
 -- ## counted
@@ -94,9 +93,6 @@ is_its set r = (nat_lt 0 r.set && (r.volume == 0)) && (r.set == set)
 its_volume : (set : ℕ) (r : Record) → is_its set r ≡ true → (nat_lt 0 r.set && (r.volume == 0)) ≡ true
 its_volume set r e = grind arith
 
-both_on : (s t : Bool) → s ≡ true → t ≡ true → (s && t) ≡ true
-both_on s t e f = grind arith
-
 one_test : (set : ℕ) (r : Record) → (r ≡ free) ⊎ ((0 < r.set) × (r.volume ≡ 0)) → is_its set r ≡ is_block_of set r
 one_test set r x2 = grind arith
 
@@ -108,7 +104,7 @@ pub entries_counted : (volumes : List ℕ) (records : List Record) (entries : Li
 entries_counted volumes records entries set one are index =
     sym (count_same (λ (e : Entry). is_its set (record_of 0 e.set e.block)) (λ (e : Entry). e.set == set) entries
     (λ i e at. ap (λ (t : Bool). t && (e.set == set))
-    (both_on (nat_lt 0 e.set) (0 == 0) (lt-ltb 0 e.set (record_of_row 0 records e.slot (copy_of e.set e.block) (noted_at 0 keep_all entries records index i e at)).0) refl)))
+    (and_from (nat_lt 0 e.set) (0 == 0) (lt-ltb 0 e.set (record_of_row 0 records e.slot (copy_of e.set e.block) (noted_at 0 keep_all entries records index i e at)).0) refl)))
     ∙ entries_count (is_its set) 0 entries records index (its_volume set) refl
     ∙ count_same (is_its set) (is_block_of set) records (λ k r at. one_test set r (each_used volumes records one are k r at))
 
@@ -140,7 +136,6 @@ pub room_for : (volumes : List ℕ) (records : List Record) (entries : Vec Entry
 room_for volumes records entries pool set b slot n keeps none empty narrow within before onward =
     let more = room_for_one entries.items (rows records) slot set b n keeps.index (unnoted records (rows records) 0 slot refl empty) (lacks_copy records set b none) narrow within before onward in
     let long = length-map records (copied_for 0) in
-    let room = keeps.room in
     omega arith
 
 -- ## images that go

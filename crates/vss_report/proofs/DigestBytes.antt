@@ -1,10 +1,10 @@
 -- A digest is 32 bytes, each below 256.
-use Rattle.std.proofs.Common.{◌≡◌, ◌∙◌, ℕ, zero, suc, ◌<◌, Bool, true, false, List, [], ◌∷◌, length, refl, arith}
-use Rattle.std.specs.Prelude.{nat_lt, slice_index, Option, Some}
+use Rattle.std.proofs.Common.{◌≡◌, ◌∙◌, ℕ, zero, suc, Bool, true, List, length, refl, arith}
+use Rattle.std.specs.Prelude.{nat_lt, slice_index, Option}
 use Rattle.std.specs.List.{list_all}
 use Rattle.std.specs.Int.{byte_at, bytes_high_first, to_be_bytes, w32}
-use Rattle.std.proofs.lemmas.Bool.Decides.{nat_tests}
 use Rattle.std.proofs.lemmas.List.Folds.{list_all-append}
+use Rattle.std.proofs.lemmas.Grind.{common_steps}
 use Rattle.hex.specs.Hex.{IsBytes}
 use Rattle.sha2.specs.Sha256.{digest_bytes, sha256 as standard}
 use Rattle.sha2.proofs.Facts256.{length-sha256}
@@ -33,12 +33,7 @@ are_digest_bytes h (suc n) =
 
 bytes_are : (bytes : List ℕ) → list_all is_byte bytes ≡ true → IsBytes bytes
 unfolding is_byte
-bytes_are [] h i = omega arith
-bytes_are (b ∷ bytes) h zero = small b (first_of_both (is_byte b) (list_all is_byte bytes) h)
-  where
-    small : (n : ℕ) → nat_lt n 256 ≡ true → n < 256
-    small n e = grind (arith, nat_tests)
-bytes_are (b ∷ bytes) h (suc i) = bytes_are bytes (second_of_both (is_byte b) (list_all is_byte bytes) h) i
+bytes_are bytes h i = grind (arith, common_steps, first_of_both, is_byte, second_of_both)
 
 pub digest_is_bytes : (bytes : List ℕ) → IsBytes (sha256 bytes)
 unfolding standard
@@ -53,8 +48,7 @@ digest_of bytes digest e = grind (arith, length-sha256, digest_is_bytes)
 
 -- whether the devices tell or not
 pub digest_if : (tells : Option Bool) (bytes digest : List ℕ) → IsDigestIf tells bytes digest → IsDigest digest
-digest_if (Some false) bytes digest h = record { long = h.0; bytes = h.1 }
-digest_if _ bytes digest h = digest_of bytes digest h
+digest_if tells bytes digest h = grind (arith, common_steps, digest_of)
 
 pub digest_told : (bytes : List ℕ) → IsDigest (sha256 bytes)
 digest_told bytes = digest_of bytes (sha256 bytes) refl

@@ -1,9 +1,11 @@
 -- Pieces that were joined are parted again.
 use Rattle.std.proofs.Common.{◌≡◌, ◌∙◌, ℕ, Bool, true, false, List, [], ◌∷◌, ◌++◌, refl, ap, arith}
-use Rattle.std.specs.Prelude.{◌==◌, ◌&&◌, not, if◌then◌else◌}
+use Rattle.std.specs.Prelude.{◌==◌, ◌&&◌, not}
 use Rattle.std.specs.List.{list_all}
 use Rattle.std.proofs.lemmas.Bool.Decides.{nat_tests}
-use Rattle.vss_report.specs.Pieces.{before, pieces, is_over}
+use Rattle.std.proofs.lemmas.Grind.{common_steps}
+use Rattle.std.proofs.lemmas.Bool.{not_from_false}
+use Rattle.vss_report.specs.Pieces.{pieces}
 use Rattle.vss_report.proofs.Parting.{pieces_are_some}
 
 same : (mark : ℕ) → (mark == mark) ≡ true
@@ -23,16 +25,13 @@ first_of_both a b e = grind arith
 pub second_of_both : (a b : Bool) → (a && b) ≡ true → b ≡ true
 second_of_both a b e = grind arith
 
-pub not_so : (a : Bool) → a ≡ false → not a ≡ true
-not_so a e = grind arith
-
 -- ## a text without the byte
 
 -- where each byte passes a test that the mark does not pass
 pub free_where : (test : ℕ → Bool) (mark : ℕ) → ((byte : ℕ) → test byte ≡ true → (byte == mark) ≡ false) → (text : List ℕ) → list_all test text ≡ true → is_free mark text ≡ true
 free_where test mark other [] h = refl
 free_where test mark other (byte ∷ rest) h =
-    both (not (byte == mark)) (is_free mark rest) (not_so (byte == mark) (other byte (first_of_both (test byte) (list_all test rest) h))) (free_where test mark other rest (second_of_both (test byte) (list_all test rest) h))
+    both (not (byte == mark)) (is_free mark rest) (not_from_false (byte == mark) (other byte (first_of_both (test byte) (list_all test rest) h))) (free_where test mark other rest (second_of_both (test byte) (list_all test rest) h))
 
 pub free_append : (mark : ℕ) (a b : List ℕ) → is_free mark a ≡ true → is_free mark b ≡ true → is_free mark (a ++ b) ≡ true
 free_append mark [] b h k = k
@@ -44,23 +43,12 @@ free_append mark (byte ∷ a) b h k =
 -- it is one piece
 pub alone : (mark : ℕ) (piece : List ℕ) → is_free mark piece ≡ true → pieces mark piece ≡ piece ∷ []
 alone mark [] h = refl
-alone mark (byte ∷ piece) h = by_byte (byte == mark) (pieces mark piece) h (alone mark piece)
-  where
-    by_byte : (t : Bool) (ps : List (List ℕ)) → (not t && is_free mark piece) ≡ true → (is_free mark piece ≡ true → ps ≡ piece ∷ []) → (if t then [] ∷ ps else before byte ps) ≡ (byte ∷ piece) ∷ []
-    by_byte true ps e later = absurd cc
-    by_byte false ps e later = ap (before byte) (later e)
-
-before_append : (byte : ℕ) (ps qs : List (List ℕ)) → is_over ps ≡ false → before byte (ps ++ qs) ≡ before byte ps ++ qs
-before_append byte ps qs h = grind arith
+alone mark (byte ∷ piece) h = grind (arith, common_steps, alone mark piece)
 
 -- what stands before the byte, and what stands behind it
 pub parted : (mark : ℕ) (text rest : List ℕ) → pieces mark (text ++ mark ∷ rest) ≡ pieces mark text ++ pieces mark rest
 parted mark [] rest = rw (same mark) refl
-parted mark (byte ∷ text) rest = by_byte (byte == mark) (pieces mark (text ++ mark ∷ rest)) (pieces mark text) (pieces mark rest) (parted mark text rest) (pieces_are_some mark text)
-  where
-    by_byte : (t : Bool) (all ps qs : List (List ℕ)) → all ≡ ps ++ qs → is_over ps ≡ false → (if t then [] ∷ all else before byte all) ≡ (if t then [] ∷ ps else before byte ps) ++ qs
-    by_byte true all ps qs e some = ap (λ xs. [] ∷ xs) e
-    by_byte false all ps qs e some = ap (before byte) e ∙ before_append byte ps qs some
+parted mark (byte ∷ text) rest = grind (arith, common_steps, parted mark text rest, pieces_are_some mark text)
 
 -- a piece without the byte is what stands before it
 pub joined : (mark : ℕ) (piece rest : List ℕ) → is_free mark piece ≡ true → pieces mark (piece ++ mark ∷ rest) ≡ piece ∷ pieces mark rest

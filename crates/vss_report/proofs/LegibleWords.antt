@@ -6,6 +6,7 @@ use Rattle.std.specs.Str.{bytes_eq}
 use Rattle.std.specs.Fmt.{decimal}
 use Rattle.std.proofs.lemmas.Fmt.{decimal_by_steps, decimal_digit, decimal_nonempty, first_decimal}
 use Rattle.std.proofs.lemmas.Bool.Decides.{nat_tests}
+use Rattle.std.proofs.lemmas.Grind.{common_steps}
 use Rattle.hex.specs.Hex.{IsBytes, encode_with, encode_lower, lower_digits}
 use Rattle.hex.proofs.HexLemmas.{length-encode_with}
 use Rattle.vss_names.specs.declared.writer_error.WriterError.{WriterError}
@@ -32,10 +33,7 @@ pub record IsWord (word : List ℕ) : Type 0 where
 
 pub same_bytes : (word : List ℕ) → bytes_eq word word ≡ true
 same_bytes [] = refl
-same_bytes (byte ∷ word) = both (byte == byte) (bytes_eq word word) (own byte) (same_bytes word)
-  where
-    own : (n : ℕ) → (n == n) ≡ true
-    own n = grind (arith, nat_tests)
+same_bytes (byte ∷ word) = grind (arith, common_steps, both, same_bytes word)
 
 -- ## numbers
 
@@ -43,17 +41,8 @@ digit_is : (d : ℕ) → d < 10 → is_digit (48 + d) ≡ true
 digit_is d l = grind (arith, nat_tests)
 
 value_more : (n m d : ℕ) (ds : List ℕ) → d < 10 → value_from n ds ≡ Some m → value_from n (ds ++ (48 + d) ∷ []) ≡ Some (m * 10 + d)
-value_more n m d [] l e =
-    let same : n ≡ m = cc in
-    ap (λ (b : Bool). if b then Some (n * 10 + ((48 + d) - 48)) else None) (digit_is d l) ∙ ap Some (value same)
-  where
-    value : n ≡ m → n * 10 + ((48 + d) - 48) ≡ m * 10 + d
-    value s = omega (arith, s)
-value_more n m d (c ∷ ds) l e = by_digit (is_digit c) e (λ f. value_more (n * 10 + (c - 48)) m d ds l f)
-  where
-    by_digit : (b : Bool) → (if b then value_from (n * 10 + (c - 48)) ds else None) ≡ Some m → (value_from (n * 10 + (c - 48)) ds ≡ Some m → value_from (n * 10 + (c - 48)) (ds ++ (48 + d) ∷ []) ≡ Some (m * 10 + d)) → (if b then value_from (n * 10 + (c - 48)) (ds ++ (48 + d) ∷ []) else None) ≡ Some (m * 10 + d)
-    by_digit true f later = later f
-    by_digit false f later = absurd cc
+value_more n m d [] l e = grind (arith, common_steps, digit_is)
+value_more n m d (c ∷ ds) l e = grind (arith, common_steps, value_more (n * 10 + (c - 48)) m d ds l)
 
 value_back : (n : ℕ) → n < 2 ^ 64 → value_from 0 (decimal n) ≡ Some n
 value_back n small = decimal_by_steps (λ m ds. value_from 0 ds ≡ Some m) (λ m l. value_more 0 0 m [] l refl ∙ ap Some (omega arith))
@@ -91,14 +80,7 @@ number_word n small = record {
 -- a number is no word that begins with another byte
 pub no_number : (c : ℕ) (cs digits : List ℕ) → is_digit c ≡ false → list_all is_digit digits ≡ true → bytes_eq digits (c ∷ cs) ≡ false
 no_number c cs [] other h = refl
-no_number c cs (d ∷ digits) other h = by_byte (d == c) refl
-  where
-    as_other : (a b : ℕ) → (a == b) ≡ true → is_digit b ≡ false → is_digit a ≡ true → ⊥
-    as_other a b e f g = grind (arith, nat_tests)
-
-    by_byte : (t : Bool) → (d == c) ≡ t → (t && bytes_eq digits cs) ≡ false
-    by_byte true e = absurd (as_other d c e other (first_of_both (is_digit d) (list_all is_digit digits) h))
-    by_byte false e = refl
+no_number c cs (d ∷ digits) other h = grind (arith, common_steps, first_of_both)
 
 -- ## digits of bytes
 

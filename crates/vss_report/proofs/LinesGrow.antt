@@ -1,14 +1,14 @@
 -- What one more move adds to the lines of a report.
 use Rattle.std.proofs.Common.{◌≡◌, ℕ, List, [], ◌∷◌, ◌++◌, refl, Bool, ap, sym, ◌∙◌, arith}
 use Rattle.std.proofs.lemmas.List.{append_assoc}
+use Rattle.std.proofs.lemmas.Grind.{common_steps}
 use Rattle.write_history.specs.declared.move_item.Move.{Move}
 use Rattle.scenario.specs.Plan.{Plan}
 use Rattle.vss_model.specs.Trail.{Run, run, run_from, moved}
 use Rattle.vss_report.specs.Report.{IsMoveText, IsLines, IsReportSoFar, first_line}
 
 append_nothing : (xs : List ℕ) → xs ++ [] ≡ xs
-append_nothing [] = refl
-append_nothing (x ∷ xs) = ap (λ ys. x ∷ ys) (append_nothing xs)
+append_nothing xs = grind (arith, common_steps)
 
 IsLines-append : (s : Plan) (tells : List Bool) (r : Run) (ms : List Move) (m : Move) (text own : List ℕ) → IsLines s tells r ms text → IsMoveText s tells (run_from s r ms) m own → IsLines s tells r (ms ++ m ∷ []) (text ++ own)
 IsLines-append s tells r [] m text own e h = (own, [], h, refl, ap (λ xs. xs ++ own) e ∙ sym (append_nothing own))

@@ -1,9 +1,10 @@
 -- The lines that are written of what a move was told are lines of the move.
-use Rattle.std.proofs.Common.{◌≡◌, ℕ, ◌+◌, List, [], ◌++◌, length, Bool, ap, sym, ◌∙◌, subst, arith}
-use Rattle.std.specs.Prelude.{Option, Some}
+use Rattle.std.proofs.Common.{◌≡◌, ℕ, ◌+◌, List, [], ◌++◌, length, Bool, ap, sym, ◌∙◌, arith}
+use Rattle.std.specs.Prelude.{Option}
 use Rattle.std.specs.List.{flat_map}
 use Rattle.std.specs.Fmt.{decimal}
 use Rattle.std.proofs.lemmas.List.{append_assoc}
+use Rattle.std.proofs.lemmas.Grind.{common_steps}
 use Rattle.vss_names.specs.declared.order.Order.{Order}
 use Rattle.vss_names.specs.declared.set_outcome.SetOutcome.{SetOutcome}
 use Rattle.set_agenda.specs.WriterSet.{writers_of}
@@ -23,7 +24,7 @@ use Rattle.vss_model.specs.Outcome.{IsOutcome, HasLists, EndsAs}
 use Rattle.vss_model.specs.Told.{Fits, mark_of}
 use Rattle.vss_model.specs.Trail.{Run, act_of}
 use Rattle.vss_report.specs.Words.{spaced, as_line, evicted_text, lost_text}
-use Rattle.vss_report.specs.Report.{reply_with, IsShownAs, IsReplyText, IsActText, IsTextOf, actor_text, effects_text, move_text}
+use Rattle.vss_report.specs.Report.{reply_with, IsShownAs, IsReplyText, actor_text, effects_text, move_text}
 use Rattle.vss_report.specs.ToldLines.{told_text, told_actor, told_end, told_lines, IsLineOf, AreLinesOf}
 
 -- ## the reply
@@ -73,10 +74,5 @@ lines_are s tells n line r actor event o listed images rows outcome number is_li
 pub are_lines : (s : Plan) (n line : ℕ) (m : Move) (o : Outcome) (listed : List ℕ) (images : List Evicted) (rows : List WriterRow)
     → AreLinesOf s n line m o listed images rows (told_lines s n line m.actor o listed images rows)
 are_lines s n line m o listed images rows tells r event is_event is_mark outcome number is_line =
-    let text : List ℕ = told_lines s n line m.actor o listed images rows in
-    let act : IsActText s tells r m.actor (act_of (mark_of o.told) event) text = record {
-      reply_text = told_text s listed rows o.told;
-      is_reply = reply_text s tells listed rows o.told (reply s r.state (act_of (mark_of o.told) event)) outcome.fits outcome.lists;
-      is = lines_are s tells n line r m.actor event o listed images rows outcome number is_line;
-    } in
-    subst (λ e. IsTextOf s tells r m.actor e m.mark text) (sym is_event) (subst (λ k. IsTextOf s tells r m.actor (Some event) k text) (sym is_mark) act)
+    let fact = reply_text s tells listed rows o.told (reply s r.state (act_of (mark_of o.told) event)) outcome.fits outcome.lists in
+    grind (arith, common_steps, lines_are s tells n line r m.actor event o listed images rows outcome)

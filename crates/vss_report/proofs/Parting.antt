@@ -1,8 +1,9 @@
 -- A text in pieces, one byte on.
-use Rattle.std.proofs.Common.{◌≡◌, ℕ, ◌+◌, ◌-◌, ◌<◌, ◌≤◌, Bool, true, false, List, [], ◌∷◌, ◌++◌, length, drop, get_or, refl, ap, arith}
-use Rattle.std.specs.Prelude.{◌==◌, if◌then◌else◌, nat_lt, slice_range}
+use Rattle.std.proofs.Common.{◌≡◌, ℕ, ◌+◌, ◌-◌, ◌<◌, ◌≤◌, true, false, List, [], ◌∷◌, ◌++◌, length, drop, get_or, refl, ap, arith}
+use Rattle.std.specs.Prelude.{◌==◌, nat_lt, slice_range}
 use Rattle.std.proofs.lemmas.Bool.Decides.{nat_tests}
 use Rattle.std.proofs.lemmas.List.{drop_more, drop_all, take_more, length-drop, length-take-le, get_or-drop}
+use Rattle.std.proofs.lemmas.Grind.{common_steps}
 use Rattle.vss_report.specs.Pieces.{before, pieces, pieces_at, is_over}
 
 -- the bytes of a list before the first piece
@@ -15,11 +16,7 @@ not_over byte ps = grind arith
 
 pub pieces_are_some : (mark : ℕ) (text : List ℕ) → is_over (pieces mark text) ≡ false
 pieces_are_some mark [] = refl
-pieces_are_some mark (byte ∷ rest) =
-    let on : (t : Bool) → is_over (if t then [] ∷ pieces mark rest else before byte (pieces mark rest)) ≡ false =
-    λ t. elim t as (λ v. is_over (if v then [] ∷ pieces mark rest else before byte (pieces mark rest)) ≡ false)
-    [ true ↦ refl | false ↦ not_over byte (pieces mark rest) ] in
-    on (byte == mark)
+pieces_are_some mark (byte ∷ rest) = grind (arith, common_steps, not_over)
 
 pub some_piece : (mark : ℕ) (text : List ℕ) (at : ℕ) → is_over (pieces_at mark text at) ≡ nat_lt (length text) at
 some_piece mark text at = grind (arith, pieces_are_some)

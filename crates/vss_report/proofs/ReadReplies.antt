@@ -1,11 +1,11 @@
 -- Each kind of reply, as it is told, is read with the mark of its move.
 use Rattle.std.proofs.Common.{◌≡◌, ◌∙◌, ℕ, ◌<◌, Bool, true, List, [], ◌∷◌, ◌++◌, length, map, Option, Some, None, refl, ap, sym, subst, arith}
-use Rattle.std.specs.Prelude.{All, ◌&&◌, nat_le, slice_get, if◌then◌else◌, codes}
+use Rattle.std.specs.Prelude.{All, ◌&&◌, slice_get, if◌then◌else◌, codes}
 use Rattle.std.specs.List.{list_all, concat}
 use Rattle.std.specs.Fmt.{decimal}
-use Rattle.std.proofs.lemmas.Bool.Decides.{nat_tests}
 use Rattle.std.proofs.lemmas.List.Elements.{All-head, All-tail}
 use Rattle.std.proofs.lemmas.Option.{slice_get-get_or}
+use Rattle.std.proofs.lemmas.Grind.{common_steps}
 use Rattle.hex.specs.Hex.{IsBytes, encode_lower}
 use Rattle.block_data.specs.Digest.{sha256}
 use Rattle.vss_names.specs.declared.context.Context.{Context}
@@ -20,7 +20,7 @@ use Rattle.scenario.specs.Plan.{Plan, WriterPlan, token}
 use Rattle.vss_model.specs.Reply.{Reply, Fine, Faulted, FaultedAfter, Numbered, Coded, NotSelectable, BlockOf, BlocksOf, KeptSets, PropertiesOf, Deleted, DocumentOf, StatusOf, Answered, Stepped, Idled}
 use Rattle.vss_report.specs.Words.{spaced, sets_text, states_text, writer_text}
 use Rattle.vss_report.specs.Report.{IsReplyText}
-use Rattle.vss_report.specs.Shapes.{is_number, is_hex, is_result, is_all, then_count, up_to, restored, mark_of_reply}
+use Rattle.vss_report.specs.Shapes.{is_number, is_hex, is_result, is_all, then_count, mark_of_reply}
 use Rattle.vss_report.specs.Legible.{IsShort, AreNames, HasItsCode, IsLaneReply}
 use Rattle.vss_report.proofs.Joined.{both}
 use Rattle.vss_report.proofs.LegibleWords.{number_back, is_number_back, is_hex_back, hex_word, result_word, is_result_back}
@@ -40,33 +40,18 @@ as_told s text told mark own e f h = subst (λ t. IsReadAs s t mark) (sym e) (su
 -- ## kind by kind
 
 read_restored : (s : Plan) (k : ℕ) → k < 65536 → IsReadAs s (codes "fault " ++ decimal k) (FaultAfter k)
-read_restored s k few = record {
-  words = codes "fault" ∷ decimal k ∷ [];
-  says = (let h = says_number k (omega arith) in record { pieces_are = ap (λ ps. codes "fault" ∷ ps) h.pieces_are; line = h.line });
-  mark_is = ap (λ o. restored (up_to 65535 o)) (number_back k (omega arith)) ∙ ap (λ (b : Bool). restored (if b then Some k else None)) (below k few);
-}
-  where
-    below : (n : ℕ) → n < 65536 → nat_le n 65535 ≡ true
-    below n l = grind (arith, nat_tests)
+read_restored s k few = grind (arith, common_steps, says_number k (omega arith), number_back k (omega arith))
 
 clean_if : Bool → Option Mark
 clean_if b = if b then Some Clean else None
 
 read_number : (s : Plan) (n : ℕ) → IsShort n → IsReadAs s (codes "set " ++ decimal n) Clean
 unfolding clean_if
-read_number s n small = record {
-  words = codes "set" ∷ decimal n ∷ [];
-  says = (let h = says_number n small in record { pieces_are = ap (λ ps. codes "set" ∷ ps) h.pieces_are; line = h.line });
-  mark_is = ap (λ b. clean_if (b && true)) (is_number_back n small);
-}
+read_number s n small = grind (arith, common_steps, says_number n small, is_number_back n small)
 
 read_deleted : (s : Plan) (n : ℕ) → IsShort n → IsReadAs s (codes "deleted " ++ decimal n) Clean
 unfolding clean_if
-read_deleted s n small = record {
-  words = codes "deleted" ∷ decimal n ∷ [];
-  says = (let h = says_number n small in record { pieces_are = ap (λ ps. codes "deleted" ∷ ps) h.pieces_are; line = h.line });
-  mark_is = ap (λ b. clean_if (b && true)) (is_number_back n small);
-}
+read_deleted s n small = grind (arith, common_steps, says_number n small, is_number_back n small)
 
 result_alone : (s : Plan) (why : VssResult) → mark_of_reply s (result.name_of why ∷ []) ≡ clean_if (is_result (result.name_of why) && true)
 unfolding clean_if
@@ -78,11 +63,9 @@ read_result s why = grind (arith, says_word, result_word, result_alone, clean_if
 
 read_digest : (s : Plan) (digest : List ℕ) → IsDigest digest → IsReadAs s (codes "digest " ++ encode_lower digest) Clean
 unfolding clean_if
-read_digest s digest h = record {
-  words = codes "digest" ∷ encode_lower digest ∷ [];
-  says = (let d = says_word (encode_lower digest) (hex_word digest h.bytes) in record { pieces_are = ap (λ ps. codes "digest" ∷ ps) d.pieces_are; line = d.line });
-  mark_is = ap (λ b. clean_if (b && true)) (is_hex_back 64 32 digest h.long refl h.bytes);
-}
+read_digest s digest h =
+    let fact = says_word (encode_lower digest) (hex_word digest h.bytes) in
+    grind (arith, common_steps, hex_word digest h.bytes, is_hex_back 64 32 digest h.long refl h.bytes)
 
 read_block : (s : Plan) (first digest : List ℕ) → length first ≡ 8 → IsBytes first → IsDigest digest → IsReadAs s (codes "data " ++ encode_lower first ++ spaced (encode_lower digest)) Clean
 unfolding clean_if

@@ -1,9 +1,10 @@
 -- The states of the writers, as they are told, are read as such.
-use Rattle.std.proofs.Common.{◌≡◌, ◌∙◌, ℕ, true, List, [], ◌∷◌, ◌++◌, length, Option, refl, ap, sym, subst, arith}
+use Rattle.std.proofs.Common.{◌≡◌, ◌∙◌, ℕ, true, List, [], ◌∷◌, ◌++◌, length, Option, refl, ap, subst, arith}
 use Rattle.std.specs.Prelude.{All, ◌&&◌, codes}
 use Rattle.std.specs.Str.{bytes_eq}
 use Rattle.std.proofs.lemmas.List.{append_assoc, append-nil}
 use Rattle.std.proofs.lemmas.List.Elements.{All-head, All-tail}
+use Rattle.std.proofs.lemmas.Grind.{common_steps}
 use Rattle.hex.specs.Hex.{encode_with}
 use Rattle.vss_names.specs.declared.writer_error.WriterError.{WriterError}
 use Rattle.vss_names.specs.declared.writer_state.WriterState.{WriterState}
@@ -68,11 +69,7 @@ pub record SaysStates (s : Plan) (ws : List WriterPlan) (text : List ℕ) (befor
 pub says_states : (s : Plan) (ws : List WriterPlan) (rows : List WriterRow) (a : List ℕ) (before : List (List ℕ)) → Says a before
     → All (λ (w : WriterPlan). is_name (token s w.name) ≡ true) ws → length rows ≡ length ws → All HasItsCode rows
     → SaysStates s ws (a ++ states_text s ws rows) before
-says_states s [] [] a before h named many has = record {
-  words = [];
-  says = subst (λ text. Says text (before ++ [])) (sym (append-nil a)) (subst (Says a) (sym (append-nil before)) h);
-  are = refl;
-}
+says_states s [] [] a before h named many has = grind (arith, common_steps, append-nil)
 says_states s [] (r ∷ rows) a before h named many has = absurd (omega (arith, many))
 says_states s (w ∷ ws) [] a before h named many has = absurd (omega (arith, many))
 says_states s (w ∷ ws) (r ∷ rows) a before h named many has =

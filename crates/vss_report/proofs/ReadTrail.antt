@@ -5,6 +5,7 @@ use Rattle.std.specs.List.{flat_map}
 use Rattle.std.specs.Fmt.{decimal}
 use Rattle.std.proofs.lemmas.List.{append_assoc, append-nil, length-append}
 use Rattle.std.proofs.lemmas.List.Elements.{All-head, All-tail}
+use Rattle.std.proofs.lemmas.Grind.{common_steps}
 use Rattle.vss_names.specs.declared.order.Order.{Order}
 use Rattle.vss_names.specs.Order as order
 use Rattle.write_history.specs.declared.evicted.Evicted.{Evicted}
@@ -23,10 +24,10 @@ use Rattle.vss_model.specs.Trail.{Run, begin, run, run_from, event_of, act_of, m
 use Rattle.vss_model.proofs.Appending.{moves-run}
 use Rattle.vss_report.specs.declared.line_kind.LineKind.TheVariants.{Move, Effect, End}
 use Rattle.vss_report.specs.Pieces.{pieces, is_over}
-use Rattle.vss_report.specs.Words.{spaced, as_line, lane_text, writer_text, answer_text, step_text, of_volume, fault_if, evicted_text, lost_text}
+use Rattle.vss_report.specs.Words.{spaced, as_line, lane_text, writer_text, answer_text, evicted_text, lost_text}
 use Rattle.vss_report.specs.Report.{IsReplyText, IsActText, IsTextOf, IsLines, IsReport, number_in, actor_text, lost_texts, ended_text, effects_text, move_text, first_line, end_text, writers_text}
 use Rattle.vss_report.specs.ReadBack.{next_number, goes_on, read_from, after_first, reading_back}
-use Rattle.vss_report.specs.Shapes.{marked, move_in, kind_of}
+use Rattle.vss_report.specs.Shapes.{move_in, kind_of}
 use Rattle.vss_report.specs.Legible.{IsShort, IsLegible, IsWriterReply, IsStepReply, IsIdleReply, IsReplyTo, IsLegibleImage, IsLegibleEnd, IsLegibleAct, IsLegibleEvent, IsLegibleMove, AreLegible, IsLegibleTrail}
 use Rattle.vss_report.proofs.Joined.{is_free, joined}
 use Rattle.vss_report.proofs.Parting.{pieces_are_some}
@@ -45,10 +46,7 @@ reads_none : (s : Plan) (before : List Step) → Reads s before [] before
 reads_none s before k rest = (k, refl)
 
 reads_then : (s : Plan) (a b c : List Step) (text more : List ℕ) → Reads s a text b → Reads s b more c → Reads s a (text ++ more) c
-reads_then s a b c text more f g k rest =
-    let first = f k (more ++ rest) in
-    let second = g first.0 rest in
-    (second.0, ap (λ t. read_from s k a (pieces 10 t)) (append_assoc text more rest) ∙ first.1 ∙ second.1)
+reads_then s a b c text more f g k rest = let first = f k (more ++ rest) in let second = g first.0 rest in grind (arith, common_steps, append_assoc)
 
 not_last : (b : Bool) (x y : Result (List Step) ℕ) → b ≡ false → (if b then x else y) ≡ y
 not_last b x y e = grind arith
@@ -126,22 +124,11 @@ writer_line s tells r w mark (Answered o a) text legible l e h =
 writer_line s tells r w mark _ text legible l e h = absurd h
 
 step_line : (s : Plan) (tells : List Bool) (r : Run) (mark : Mark) (answer : Reply) (text : List ℕ) → IsLegible s → IsReplyText s tells answer text → IsStepReply s mark answer → IsMoveLine s r Advance mark text
-step_line s tells r mark (Stepped g v fault) text legible e h =
-    let back = step_back s mark g v fault legible.volumes h in
-    subst (IsMoveLine s r Advance mark) (sym e.is) (record {
-      words = codes "provider" ∷ back.words;
-      says = says_spaced (codes "provider") (step_text g ++ of_volume s v ++ fault_if fault) (codes "provider" ∷ []) back.words (record { pieces_are = refl; line = refl }) back.says;
-      move_is = ap (marked Advance) back.mark_is;
-    })
+step_line s tells r mark (Stepped g v fault) text legible e h = grind (arith, common_steps, step_back s mark g v fault legible.volumes h)
 step_line s tells r mark _ text legible e h = absurd h
 
 idle_line : (s : Plan) (tells : List Bool) (r : Run) (mark : Mark) (answer : Reply) (text : List ℕ) → IsReplyText s tells answer text → IsIdleReply mark answer → IsMoveLine s r Idle mark text
-idle_line s tells r mark (Idled n) text e h =
-    subst (IsMoveLine s r Idle mark) (sym e.is) (subst (λ m. IsMoveLine s r Idle m (decimal n)) (sym h.0) (record {
-      words = codes "idle" ∷ decimal n ∷ [];
-      says = says_spaced (codes "idle") (decimal n) (codes "idle" ∷ []) (decimal n ∷ []) (record { pieces_are = refl; line = refl }) (says_number n h.1);
-      move_is = ap (marked Idle) (idle_back n h.1);
-    }))
+idle_line s tells r mark (Idled n) text e h = grind (arith, common_steps, says_number n h.1, idle_back n h.1)
 idle_line s tells r mark _ text e h = absurd h
 
 actor_line : (s : Plan) (tells : List Bool) (r : Run) (actor : Actor) (mark : Mark) (answer : Reply) (text : List ℕ) → IsLegible s → IsReplyText s tells answer text → IsReplyTo s tells actor mark answer → IsMoveLine s r actor mark text

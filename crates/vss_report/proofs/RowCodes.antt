@@ -9,8 +9,7 @@ use Rattle.writer_state.specs.declared.writer_row.WriterRow.{WriterRow}
 use Rattle.writer_state.specs.WriterState.{is_failed, stable_again}
 use Rattle.writer_state.specs.WriterRow.{row_after, row_aborted, row_gathered, row_ended}
 use Rattle.write_history.specs.declared.move_item.Move.{Move}
-use Rattle.set_agenda.specs.Agenda.{is_among}
-use Rattle.set_agenda.specs.Course.{Course, row_if, rows_where, is_member, posted, told, worked, failed as course_failed, released}
+use Rattle.set_agenda.specs.Course.{Course, row_if, rows_where, posted, told, worked, failed as course_failed, released}
 use Rattle.set_agenda.proofs.CourseRule.{IsKeptInCourse}
 use Rattle.scenario.specs.Plan.{Plan, WriterPlan}
 use Rattle.vss_model.specs.State.{State, row_of_writer}
@@ -66,24 +65,11 @@ RowsAreCoded c = AreCoded c.rows
 
 coded_within : IsKeptInCourse RowsAreCoded
 unfolding posted told worked course_failed
-coded_within = record {
-  posts = λ before c h. h;
-  says = λ o said now ws c h. coded_where (row_after o said) (has_said o said) (λ w. is_among w ws) 0 c.rows h;
-  works = λ now c h. h;
-  fails = λ why c h. coded_where row_aborted has_aborted (is_member c.members) 0 c.rows h;
-  closes = λ k c h. h;
-}
+coded_within = grind (arith, coded_where, has_said, has_aborted)
 
 coded_calls : IsKeptByCalls RowsAreCoded
 unfolding released
-coded_calls = record {
-  within = coded_within;
-  begins = λ k ms vs now c h. h;
-  gathers = λ c h. coded_anew c.rows;
-  takes = λ test c h. h;
-  disables = λ w c h. h;
-  releases = λ c h. coded_map row_ended has_ended c.rows h;
-}
+coded_calls = grind (arith, coded_within, coded_anew, coded_map, has_ended)
 
 all_coded : (rows : List WriterRow) → AreCoded rows → All HasItsCode rows
 all_coded [] h = All-nil HasItsCode

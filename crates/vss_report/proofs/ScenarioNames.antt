@@ -1,7 +1,7 @@
 -- A scenario whose names are by the grammar, and apart, is legible.
-use Rattle.std.proofs.Common.{◌≡◌, ◌∙◌, ℕ, zero, suc, ◌+◌, ◌^◌, ◌<◌, Bool, true, false, List, [], ◌∷◌, length, map, Option, Some, None, refl, ap, sym, subst, arith}
+use Rattle.std.proofs.Common.{◌≡◌, ◌∙◌, ℕ, zero, suc, ◌+◌, ◌^◌, ◌<◌, true, List, [], ◌∷◌, length, map, Option, Some, None, refl, ap, sym, subst, arith}
 use Rattle.std.specs.Prelude.{slice_get}
-use Rattle.std.specs.Str.{bytes_eq}
+use Rattle.std.proofs.lemmas.Grind.{common_steps}
 use Rattle.scenario.specs.declared.span.Span.{Span}
 use Rattle.scenario.specs.declared.volume_row.VolumeRow.{VolumeRow}
 use Rattle.scenario.specs.Plan.{Plan, WriterPlan, LanePlan, LaneLine, lines_in as lines_in_lane}
@@ -20,10 +20,7 @@ span_text text (Some span) = bytes_of text span
 unlike : (text : List ℕ) (first : Span) (spans : List Span) (j : ℕ) → Differ text first spans → j < length spans → bytes_of text first ≡ span_text text (slice_get spans j) → ⊥
 unfolding span_text
 unlike text first [] j h l e = omega arith
-unlike text first (span ∷ spans) zero h l e = both_ways (bytes_eq (bytes_of text first) (bytes_of text span)) (subst (λ t. bytes_eq (bytes_of text first) t ≡ true) e (same_bytes (bytes_of text first))) h.0
-  where
-    both_ways : (b : Bool) → b ≡ true → b ≡ false → ⊥
-    both_ways b f g = cc
+unlike text first (span ∷ spans) zero h l e = grind (arith, common_steps, same_bytes)
 unlike text first (span ∷ spans) (suc j) h l e = unlike text first spans j h.1 (omega arith) e
 
 apart : (text : List ℕ) (spans : List Span) (i j : ℕ) → Distinct text spans → i < length spans → j < length spans → span_text text (slice_get spans i) ≡ span_text text (slice_get spans j) → i ≡ j
@@ -51,8 +48,7 @@ number_in_lane k (x ∷ lanes) zero j l h e = number_at k x.lines j l h.0 e
 number_in_lane k (x ∷ lanes) (suc i) j l h e = number_in_lane k lanes i j l h.1 e
 
 length-spans : {X : Type 0} (f : X → Span) (xs : List X) → length (map f xs) ≡ length xs
-length-spans f [] = refl
-length-spans f (x ∷ xs) = ap suc (length-spans f xs)
+length-spans f xs = grind (arith, common_steps)
 
 volume_is : (s : Plan) (rows : List VolumeRow) (v : ℕ) → volume_in s (slice_get rows v) ≡ span_text s.source (slice_get (volume_spans rows) v)
 unfolding span_text

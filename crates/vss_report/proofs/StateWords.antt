@@ -3,6 +3,7 @@ use Rattle.std.proofs.Common.{◌≡◌, ◌∙◌, ℕ, zero, suc, ◌+◌, ◌
 use Rattle.std.specs.Prelude.{slice_get, ◌&&◌}
 use Rattle.std.specs.List.{range_with_len}
 use Rattle.std.specs.Str.{bytes_eq}
+use Rattle.std.proofs.lemmas.Grind.{common_steps}
 use Rattle.scenario.specs.Plan.{Plan, WriterPlan}
 use Rattle.vss_report.specs.Words.{writer_in}
 use Rattle.vss_report.specs.Shapes.{is_state_of, are_states}
@@ -31,11 +32,7 @@ no_such_state s ws w words name word more whole is h some named told other e = g
 pub one_state : (s : Plan) (ws : List WriterPlan) (w : ℕ) (words : List (List ℕ)) (name word : List ℕ) (more : List (List ℕ)) (whole is : Bool) → w < length ws
     → words ≡ word ∷ more → name ≡ writer_in s (slice_get ws w) → is ≡ is_state_of name word → is ≡ true
     → whole ≡ are_states s (drop w ws) words → whole ≡ are_states s (drop (w + 1) ws) more
-one_state s ws w words name word more whole is h some named told so e =
-    let next : w + 1 ≡ suc w = omega arith in
-    e ∙ from_writer s ws w words h ∙ ap (next_state s (writer_in s (slice_get ws w)) (drop (suc w) ws)) some
-    ∙ ap (λ n. is_state_of n word && are_states s (drop (suc w) ws) more) (sym named) ∙ ap (λ b. b && are_states s (drop (suc w) ws) more) (sym told ∙ so)
-    ∙ sym (ap (λ k. are_states s (drop k ws) more) next)
+one_state s ws w words name word more whole is h some named told so e = let next : w + 1 ≡ suc w = omega arith in grind (arith, common_steps, from_writer)
 
 from_next : (name_of : ℕ → List ℕ) (name : List ℕ) (i n k : ℕ) → n ≡ suc k → bytes_eq (name_of i) name ≡ false
     → find (λ j. bytes_eq (name_of j) name) (range_with_len i n) ≡ find (λ j. bytes_eq (name_of j) name) (range_with_len (i + 1) k)

@@ -1,6 +1,7 @@
 -- What a program tells of a legal move is legible.
-use Rattle.std.proofs.Common.{◌≡◌, ℕ, ◌<◌, Bool, true, false, List, [], ◌∷◌, length, Option, Some, refl, sym, subst, find, cond, arith}
-use Rattle.std.specs.Prelude.{All, not, is_some}
+use Rattle.std.proofs.Common.{◌≡◌, ℕ, ◌<◌, Bool, true, false, List, [], ◌∷◌, length, Option, Some, refl, sym, subst, find, arith}
+use Rattle.std.specs.Prelude.{All, is_some}
+use Rattle.std.proofs.lemmas.Grind.{common_steps}
 use Rattle.vss_names.specs.declared.order.Order.{Order}
 use Rattle.vss_names.specs.declared.set_outcome.SetOutcome.{SetOutcome}
 use Rattle.writer_state.specs.declared.writer_row.WriterRow.{WriterRow}
@@ -16,12 +17,12 @@ use Rattle.scenario.specs.declared.op.Op.{Op}
 use Rattle.scenario.specs.Bounds.{IsPlan}
 use Rattle.scenario.specs.Plan.{Plan, LaneLine}
 use Rattle.vss_model.specs.declared.event.Event.{Event}
-use Rattle.vss_model.specs.declared.event.Event.TheVariants.{Line, Answer as AnswerEvent, Provider, Idle as IdleEvent}
+use Rattle.vss_model.specs.declared.event.Event.TheVariants.{Line, Answer as AnswerEvent}
 use Rattle.vss_model.specs.declared.outcome.Outcome.{Outcome}
 use Rattle.vss_model.specs.declared.told.Told.{Told}
 use Rattle.vss_model.specs.declared.told.Told.TheVariants as told
 use Rattle.vss_model.specs.Reply.{Reply}
-use Rattle.vss_model.specs.State.{State, SetRow, is_running, in_progress, left_now}
+use Rattle.vss_model.specs.State.{State, SetRow, is_running, in_progress}
 use Rattle.vss_model.specs.Steps.{is_flush}
 use Rattle.vss_model.specs.Acts.{reply, answer_reply, step_reply, flush_allows, event_allows, enabled, order_of_writer, after}
 use Rattle.vss_model.specs.Effects.{ended_of, ended}
@@ -29,10 +30,11 @@ use Rattle.vss_model.specs.Outcome.{IsOutcome, HasLists, EndsAs}
 use Rattle.vss_model.specs.Told.{Fits, mark_of}
 use Rattle.vss_model.specs.Trail.{Run, act_of, next_line, line_event, script_event, event_of, may_move}
 use Rattle.vss_report.specs.ToldLines.{IsTold, IsActor, HasRowsIfTold, AreInRange}
-use Rattle.vss_report.specs.Legible.{IsShort, HasItsCode, IsLaneReply, IsWriterReply, IsStepReply, IsIdleReply, IsReplyTo, IsLegibleImage, IsLegibleEnd, IsLegibleAct}
+use Rattle.vss_report.specs.Legible.{IsShort, HasItsCode, IsLaneReply, IsWriterReply, IsStepReply, IsReplyTo, IsLegibleImage, IsLegibleEnd, IsLegibleAct}
 use Rattle.vss_report.specs.LegibleOutcome.{IsShortTold, AreShortSets, AreShort, IsLegibleAs}
-use Rattle.vss_report.proofs.LaneReplies.{IsOfMark, line_reply}
+use Rattle.vss_report.proofs.LaneReplies.{IsOfMark, of_mark}
 use Rattle.vss_report.proofs.Joined.{first_of_both, second_of_both}
+use Rattle.set_agenda.proofs.Closings.{unless}
 
 -- ## a lane's reply
 
@@ -81,23 +83,14 @@ actor_legible : (s : Plan) (tells : List Bool) (r : Run) (a : Actor) (mark : Mar
     → IsActor s a → IsTold s t → IsShortTold t listed → HasRowsIfTold s t rows → All HasItsCode r.state.course.rows → IsReplyTo s tells a mark (reply s r.state (act_of mark event))
 actor_legible s tells r (Lane i) mark event t listed rows plan is h actor in_plan short many coded =
     let e = line_event_is i (next_line s r i) event is in
-    let at : Happens s tells r.state mark t listed rows (Line i e.op) = subst (Happens s tells r.state mark t listed rows) e.is h in (
-      actor,
-      subst (λ x. IsLaneReply s tells mark (reply s r.state (act_of mark x))) (sym e.is)
-          (lane_legible s tells r.state mark (reply s r.state (act_of mark (Line i e.op))) t listed rows (line_reply s i e.op mark r.state plan at.allowed) at.fits at.lists short many coded),
-    )
+    let at : Happens s tells r.state mark t listed rows (Line i e.op) = subst (Happens s tells r.state mark t listed rows) e.is h in
+    grind (arith, common_steps, lane_legible, of_mark)
 actor_legible s tells r (Writer w) mark event t listed rows plan is h actor in_plan short many coded =
     let e = script_event_is s r.state w (order_of_writer r.state w) event is in
     let at : Happens s tells r.state mark t listed rows (AnswerEvent w e.answer) = subst (Happens s tells r.state mark t listed rows) e.is h in
     (actor, subst (λ x. IsWriterReply mark (reply s r.state (act_of mark x))) (sym e.is) (writer_legible mark (order_of_writer r.state w) e.answer at.enabled_is (clean_alone mark at.allowed)))
-actor_legible s tells r Advance mark event t listed rows plan is h actor in_plan short many coded =
-    let e : Provider ≡ event = cc in
-    let at : Happens s tells r.state mark t listed rows Provider = subst (Happens s tells r.state mark t listed rows) (sym e) h in
-    subst (λ x. IsStepReply s mark (reply s r.state (act_of mark x))) e (steps_legible s tells mark (left_now r.state) t at.enabled_is at.allowed at.fits in_plan)
-actor_legible s tells r Idle mark event t listed rows plan is h actor in_plan short many coded =
-    let e : IdleEvent ≡ event = cc in
-    let at : Happens s tells r.state mark t listed rows IdleEvent = subst (Happens s tells r.state mark t listed rows) (sym e) h in
-    subst (λ x. IsIdleReply mark (reply s r.state (act_of mark x))) e (clean_alone mark at.allowed, short_as t (told.Ticks _) listed at.fits short)
+actor_legible s tells r Advance mark event t listed rows plan is h actor in_plan short many coded = grind (arith, common_steps, steps_legible)
+actor_legible s tells r Idle mark event t listed rows plan is h actor in_plan short many coded = grind (arith, common_steps, clean_alone, short_as)
 
 -- ## effects
 
@@ -106,17 +99,10 @@ images_legible s images h k = grind arith
 
 passes_found : (test : SetRow → Bool) (rows : List SetRow) (r : SetRow) → find test rows ≡ Some r → test r ≡ true
 passes_found test [] r e = absurd cc
-passes_found test (q ∷ rows) r e = by_first (test q) refl e (passes_found test rows r)
-  where
-    by_first : (b : Bool) → test q ≡ b → cond b (Some q) (find test rows) ≡ Some r → (find test rows ≡ Some r → test r ≡ true) → test r ≡ true
-    by_first true f g later = let same : q ≡ r = cc in subst (λ x. test x ≡ true) same f
-    by_first false f g later = later g
-
-not_true : (b : Bool) → not b ≡ true → b ≡ false
-not_true b e = grind arith
+passes_found test (q ∷ rows) r e = grind (arith, common_steps, passes_found test rows r)
 
 over_ended : (o : Option SetRow) (rows : List SetRow) (r : SetRow) → ended_of o rows ≡ Some r → is_running r.result ≡ false
-over_ended o rows r e = grind (arith, not_true, second_of_both, passes_found)
+over_ended o rows r e = grind (arith, unless, second_of_both, passes_found)
 
 end_legible : (o found : Option SetRow) (rows : List SetRow) (n : ℕ) (end : SetOutcome) → ended_of o rows ≡ found → EndsAs found n end → IsShort n → IsLegibleEnd found
 end_legible o found rows n end e ends short = grind (arith, over_ended)

@@ -1,19 +1,16 @@
 -- Numbers by their digits: which words are numbers, and which are not above a bound.
-use Rattle.std.proofs.Common.{◌≡◌, ℕ, ◌+◌, ◌-◌, ◌*◌, Bool, true, false, List, [], ◌∷◌, refl, arith, Option, Some, None}
-use Rattle.std.specs.Prelude.{if◌then◌else◌, ◌&&◌, is_some, Ok, Err}
+use Rattle.std.proofs.Common.{◌≡◌, ℕ, ◌+◌, ◌-◌, ◌*◌, List, [], ◌∷◌, refl, arith, Option, Some, None}
+use Rattle.std.specs.Prelude.{◌&&◌, is_some, Ok, Err}
 use Rattle.std.specs.List.{list_all}
 use Rattle.std.proofs.lemmas.Bool.Decides.{nat_tests}
+use Rattle.std.proofs.lemmas.Grind.{common_steps}
 use Rattle.scenario.specs.Numbers.{is_digit, begins_number, value_from, in_range, number_in, number_of}
 use Rattle.scenario.specs.declared.reason.Reason.{Reason}
 use Rattle.vss_report.specs.Shapes.{is_number, number_up_to, up_to}
 
 pub digits_have_value : (n : ℕ) (word : List ℕ) → is_some (value_from n word) ≡ list_all is_digit word
 digits_have_value n [] = refl
-digits_have_value n (byte ∷ rest) =
-    let on : (t : Bool) → is_some (if t then value_from (n * 10 + (byte - 48)) rest else None) ≡ t && list_all is_digit rest =
-    λ t. elim t as (λ v. is_some (if v then value_from (n * 10 + (byte - 48)) rest else None) ≡ v && list_all is_digit rest)
-    [ true ↦ digits_have_value (n * 10 + (byte - 48)) rest | false ↦ refl ] in
-    on (is_digit byte)
+digits_have_value n (byte ∷ rest) = grind (arith, common_steps, digits_have_value (n * 10 + (byte - 48)) rest)
 
 pub number_by_digits : (word : List ℕ) → is_number word ≡ begins_number word && list_all is_digit word
 number_by_digits word = grind (arith, digits_have_value)

@@ -6,6 +6,10 @@ use std::fs::File;
 use std::io::Read;
 use std::{fmt, io};
 
+/// What is said if the standard output failed.
+pub const WRITE_FAULT: &str =
+    "write fault\n     the standard output took only a first part of the text: is the disk full, or a pipe closed?";
+
 /// Why a file was not read.
 #[derive(Clone, Copy)]
 pub enum Unread {
@@ -31,7 +35,9 @@ impl fmt::Display for Unread {
     fn fmt<W: fmt::Write>(&self, f: &mut fmt::Formatter<W>) -> fmt::Result {
         match self {
             Unread::Failed(error) => write!(f, "could not be read: {error}"),
-            Unread::TooLong => f.write_str("too long"),
+            Unread::TooLong => f.write_str(
+                "too long: a scenario has 16,777,216 bytes at most, a report and an order 1,073,741,824",
+            ),
             Unread::OutOfMemory => f.write_str("out of memory"),
         }
     }

@@ -9,7 +9,7 @@ use Rattle.vss_world.proofs.Words.{refusal, refused_happens, runs, simple_outcom
 use Rattle.requestor.specs.declared.session_call.SessionCall.TheVariants as call
 use Rattle.scenario.specs.declared.op.Op.TheVariants as op
 use Rattle.vss_model.specs.declared.told.Told.TheVariants as told
-use Rattle.vss_model.specs.Lines.{called}
+use Rattle.vss_model.proofs.StateForm.{called}
 use Rattle.vss_world.proofs.ToCome.{no_agenda_provided}
 use Rattle.vss_world.proofs.Moved.{world_of, IsProviderAt, goes_nowhere, clean_devices}
 use Rattle.vss_world.proofs.Simple.{after_line}

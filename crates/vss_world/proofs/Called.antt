@@ -13,6 +13,7 @@ use Rattle.vss_world.proofs.SetGoesOn.{GoesOn, BeginsSnapshot}
 use Rattle.vss_world.proofs.LinesGoOn.{LineGoes, StartsSet, line_goes}
 use Rattle.vss_world.proofs.Prepared.{runs_number, IsUnended, none_of_zero, settled_comes, settled_keeps, unended, none_ended}
 use Rattle.vss_world.proofs.Following.{at_of, course_of, set_move, ends_of, session_comes}
+use Rattle.vss_model.proofs.ByEvent.{reply_is}
 
 is_clean : (s : Plan) (st : State) (op : Op) (mark : Mark) → is_some (call_of op) ≡ true → line_allows s st op mark ≡ true → is_fault mark ≡ false
 is_clean s st op mark e f = grind arith
@@ -110,5 +111,5 @@ call_moves device s lane op q {m = m} {set = set} {p = p} {r = r} {x = x} {y = y
     line_left device s op m p q r acts act settled (subst (λ (o : Option ℕ). IsEndPrepared (begins_snapshot op m.outcome.told) o q r) current ended)
     stands.at.prepared stands.at.groups (ends_of st move here) (move.volumes st here)
     (subst (λ (z : State). SetGoes st z (begins_snapshot op m.outcome.told)) (sym (to acts stands))
-    (set_goes op [] st (line s lane op mark st) m.outcome.told out.fits (line_goes s lane st (course_of s acts) op mark (move.is_enabled st here) call no_add (in_order s acts).session))))
+    (set_goes op [] st (line s lane op mark st) m.outcome.told (subst (λ told. Fits [] told m.outcome.told) (reply_is s st act) out.fits) (line_goes s lane st (course_of s acts) op mark (move.is_enabled st here) call no_add (in_order s acts).session))))
     of is_op

@@ -1,10 +1,11 @@
 -- Digests of volumes and of images: what is told of them, and that nothing but counts of devices changes.
-use Rattle.std.proofs.Common.{◌≡◌, ℕ, ◌<◌, List, length, ap, sym, ◌∙◌, true, false, Option, Some, None, slice_get, is_some, Result, IfOk, IfSome, All}
+use Rattle.std.proofs.Common.{◌≡◌, ℕ, ◌<◌, List, length, ap, sym, ◌∙◌, true, false, Option, Some, None, slice_get, is_some, IfSome, All}
 use Rattle.std.proofs.Common.{arith}
-use Rattle.vss_world.proofs.Words.{Act, AreDevicesAlone, AreGroups, Cause, Digested, Evicted, Ghosts, HasImage, IfStandFor, IfStands, IsBytes, IsDigestIf, IsDigestOf, IsDigestShown}
+use Rattle.vss_world.proofs.Words.{Act, AreDevicesAlone, AreGroups, Digested, Evicted, Ghosts, GroupValue, HasImage, IfStandFor, IfStands, IsDigestIf, IsDigestOf}
 use Rattle.vss_world.proofs.Words.{IsDigestTold, IsDigestedAt, IsDigestedIf, IsOf, IsPointOf, IsQuiet, IsStanding, Plan, ProviderValue, SessionsValue, Stands, State, WorldValue, Write, blocks_of}
 use Rattle.vss_world.proofs.Words.{concat, contents, devices_of, history_at, history_of, is_kept_set, kept, point_before as kept_point, point_in, provided, state, tells_of}
-use Rattle.provider.proofs.Words.{IsQuiet as IsGroupsQuiet}
+use Rattle.cow_volume.specs.Calls.{cause_of}
+use Rattle.provider.proofs.Words.{HasImageCause, ImageFault, IsQuiet as IsGroupsQuiet, IsThere}
 use Rattle.vss_world.proofs.Moved.{world_of, in_order, of_kept}
 use Rattle.vss_world.proofs.Options.{some_is}
 use Rattle.vss_world.proofs.OnProvided.{writes_at, kept_at}
@@ -48,6 +49,11 @@ pub stands_image : {D : Type 0} {told : D → Option (List (List ℕ))} {s : Pla
     → HasImage told s w.provider.groups v set false → ⊥
 stands_image set v standing is none = grind (arith, some_is, point_stands)
 
+-- a fault of a call on what is there is a device's
+pub device_fault : {D : Type 0} (device : Ghosts D) (s : Plan) (v : ℕ) (set : Option ℕ) (fault : ImageFault) (old new : List (GroupValue D)) → (IsThere device.told s old v set false → ⊥)
+    → HasImageCause device s v set (Some fault) old new → is_some (cause_of fault) ≡ true
+device_fault device s v set fault old new there cause = grind arith
+
 -- ## digests
 
 module _ {D : Type 0} (told : D → Option (List (List ℕ))) {s : Plan} {p : ProviderValue D} {x : SessionsValue} {l : List ℕ} {e : List Evicted} {w : WorldValue D} (is : world_of p x l e ≡ w)
@@ -66,12 +72,6 @@ module _ {D : Type 0} (told : D → Option (List (List ℕ))) {s : Plan} {p : Pr
       digest_of None digest st (length (history_of st v).writes) within stands.at.groups h (ap (λ (ws : List Write). length ws) (sym (writes_at st v)))
   told_of {v = v} (Some set) digest within h acts stands =
       λ point shows. digest_of (Some set) digest (state s acts) point within stands.at.groups h (point_stands s acts set v point shows)
-
-  -- whatever the call answers
-  pub now_told_if : {v : ℕ} (result : Result (List ℕ) Cause) → v < length s.volumes → IfOk result (IsDigestShown told s p.groups v None)
-      → IfOk result (λ (digest : List ℕ). (length digest ≡ 32) × IsBytes digest)
-      → IfOk result (λ digest. IfStands told w s (λ st. IsDigestOf (tells_of told s w.devices) s st v None digest))
-  now_told_if result within now wide = grind (arith, told_of)
 
   -- those that were made side by side
   one_digested : {v : ℕ} (set : Option ℕ) (digest : Option (List ℕ)) → IfSome digest (IsDigestTold told s p.groups v set) → v < length s.volumes

@@ -9,10 +9,7 @@ use Rattle.vss_world.proofs.Words.{row_cut, row_gathered, row_settled, runs, sai
 use Rattle.vss_world.proofs.Words.{with_room_if, with_volume}
 use Rattle.set_agenda.specs.Course.{failed, posted, told, worked, released}
 use Rattle.set_agenda.specs.declared.kind.Kind.TheVariants as kind
-use Rattle.vss_model.specs.Ending.{followed, failed as set_failed}
-use Rattle.vss_model.specs.Sessions.{closed}
-use Rattle.vss_model.specs.Steps.{stepped, answered, ticked}
-use Rattle.vss_model.specs.Images.{write}
+use Rattle.vss_model.proofs.StateForm.{followed, failed as set_failed, closed, stepped, answered, ticked, write}
 
 -- ## the course
 

@@ -9,8 +9,7 @@ use Rattle.set_agenda.specs.declared.kind.Kind.TheVariants as kind
 use Rattle.set_agenda.specs.Course.{released}
 use Rattle.requestor.specs.declared.session_call.SessionCall.TheVariants as call
 use Rattle.scenario.specs.declared.op.Op.TheVariants.{Snapshot}
-use Rattle.vss_model.specs.Sessions.{closed}
-use Rattle.vss_model.specs.Lines.{called}
+use Rattle.vss_model.proofs.StateForm.{closed, called}
 use Rattle.vss_world.proofs.SetGoesOn.{GoesOn, IsOfAgenda, BeginsSnapshot, goes_nowhere, failed_goes, begun_goes, snapshot_begins}
 use Rattle.scenario.specs.declared.line.Line.{Line as Does}
 

@@ -2,11 +2,14 @@
 use Rattle.std.proofs.Common.{◌≡◌, ℕ, zero, suc, ◌<◌, ◌≤◌, ◌==◌, List, [], ◌∷◌, length, refl, ap, sym, ◌∙◌, subst, arith, Bool, true, false, Option, Some, None, map, slice_get}
 use Rattle.std.specs.Prelude.{option_map, is_some, not, ◌&&◌, ◌||◌, if◌then◌else◌, Result, Ok, Err}
 use Rattle.std.proofs.lemmas.Bool.{and_parts, not-true}
-use Rattle.vss_model.specs.Words.{Act, Agenda, EndsAs, Evicted, Failed, Fits, HasLists, History, Image, InsufficientStorage, IsBlock, Mark, Op, Placed, Plan, Replied, Reply, Running, SetOutcome}
-use Rattle.vss_model.specs.Words.{SetRow, State, Write, WriterRow, act_of, acts_as, after, change_at, cleared, dropped, ended_of, evicted, evicted_for, failed_in}
-use Rattle.vss_model.specs.Words.{going_up_to, gone_up_to, group_of, has_image, has_lost_image, history_in, history_of, images_dropped, in_progress, is_free, is_held, is_running}
-use Rattle.vss_model.specs.Words.{left_now, line, line_allows, line_enabled, line_of, lost, lost_order_if, mark_of, may_write, order_now, placed, placed_in, point_in, put}
-use Rattle.vss_model.specs.Words.{reply_of_mark, set_loses_image, slots_of, state, with_room, with_room_if, written}
+use Rattle.vss_model.specs.Words.{Act, Agenda, EndsAs, Evicted, Failed, Fits, HasLists, History, Image, InsufficientStorage, IsBlock, Mark, Op, Placed, Plan, Reply, Running, SetOutcome}
+use Rattle.vss_model.proofs.ByEvent.{reply_is}
+use Rattle.vss_model.proofs.Changes.{fails_now}
+use Rattle.vss_model.proofs.StateForm.{Replied, cleared, failed_in, images_dropped, line, put, with_room, with_room_if, write}
+use Rattle.vss_model.specs.Words.{SetRow, State, Write, WriterRow, act_of, acts_as, after, change_at, dropped, ended_of, evicted, evicted_for, reply}
+use Rattle.vss_model.specs.Words.{going_up_to, gone_up_to, group_of, has_image, has_lost_image, history_in, history_of, in_progress, is_free, is_held, is_running}
+use Rattle.vss_model.specs.Words.{left_now, line_allows, line_enabled, line_of, lost, lost_order_if, mark_of, may_write, order_now, placed, placed_in, point_in}
+use Rattle.vss_model.specs.Words.{reply_of_mark, set_loses_image, slots_of, state, written}
 use Rattle.vss_world.specs.Words.{IsFailed, IsInOrder, IsOf as IsSessionsOf, Keeps, Leaves, Line, Outcome, SessionsValue, current_of}
 use Rattle.provider.specs.Words.{Cause, Ghosts}
 use Rattle.vss_model.proofs.Words.{UpTo, image_runs, images_up_to, new-is, newest_number, none_after, orderly, some_rows}
@@ -16,7 +19,6 @@ use Rattle.provider.proofs.Words.{number_is as own_number, put_if, slice_get_ins
 use Rattle.vss_world.proofs.Words.{IfStands, IsBlocked, IsInPlan, IsMoved, IsOf, IsPrepared, IsWriteBy, IsWriteLine, MakesRoom, RoseFor, Stands, StandsAt, WorldValue, comes, current_kept, is_to_come}
 use Rattle.vss_world.proofs.Words.{no_row as none_current, number_of, number_prepared, provided, provided_of, simple_outcome, tells_of, told_if, volume_by}
 use Rattle.scenario.specs.declared.line.Line.{Line as Does}
-use Rattle.vss_model.specs.Images.{write}
 use Rattle.vss_world.proofs.Moved.{world_of, OfDevices, Comes, goes_on, leaves_of, in_order, moved, clean_devices, failed_devices, rose_for}
 use Rattle.vss_world.proofs.Simple.{LineComes, line_moves, after_line}
 use Rattle.vss_world.proofs.InPlan.{in_failed_in}
@@ -280,7 +282,7 @@ module _ {D : Type 0} {device : Ghosts D} {s : Plan} {lane : ℕ} {op : Op} {v :
       let to : after s st (act_of mark (Line lane op)) ≡ put v w mark over = after_line s st lane op mark ready ∙ ap (λ (t : Replied). t.1) done_line in
       let order = in_order s acts in
       let base_order : IsInOrder base = record { numbered = order.numbered; newest = order.newest; session = order.session } in
-      let keeps : Keeps y over = subst (λ (o : Option SetRow). Keeps y (failed_in o InsufficientStorage base)) a.1 (fails base base_order cleared_keeps) in
+      let keeps : Keeps y over = subst (λ (o : Option SetRow). Keeps y (failed_in o InsufficientStorage base)) a.1 (subst (Keeps y) (fails_now InsufficientStorage base) (fails base base_order cleared_keeps)) in
       let none : in_progress over ≡ None = none_after (Some a.0) InsufficientStorage base a.1 in
       let agenda = st.course.agenda in
       let wrote = put_if done v w base.volumes in
@@ -298,7 +300,7 @@ module _ {D : Type 0} {device : Ghosts D} {s : Plan} {lane : ℕ} {op : Op} {v :
       let number = newest a.0 a.1 in
       let some = some_rows (λ t. is_running t.result) st.sets a.0 a.1 in
       let same_number = a.2 in
-      let said : (line s lane op mark st).0 ≡ reply_of_mark mark = ap (λ (t : Replied). t.0) done_line in
+      let said : reply s st (act_of mark (Line lane op)) ≡ reply_of_mark mark = reply_is s st (act_of mark (Line lane op)) ∙ ap (λ (t : Replied). t.0) done_line in
       record {
         is_enabled = ready;
         is_allowed = h.is.allowed done st;

@@ -9,7 +9,7 @@ use Rattle.vss_world.proofs.Words.{point_in, provided, refused, revert_refusal, 
 use Rattle.vss_world.proofs.Words.{without}
 use Rattle.provider.specs.Words.{Fault}
 use Rattle.vss_model.specs.declared.told.Told.TheVariants as told
-use Rattle.vss_model.specs.Images.{delete_set, delete_image, revert}
+use Rattle.vss_model.proofs.StateForm.{delete_set, delete_image, revert}
 use Rattle.vss_world.proofs.Moved.{world_of, in_order}
 use Rattle.vss_world.proofs.OnProvided.{has_if, writes_at, other_set}
 use Rattle.vss_world.proofs.WithoutImages.{LeavesApart, filter_twice, dropped_apart, map_without, change_without}

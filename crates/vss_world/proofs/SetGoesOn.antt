@@ -10,7 +10,7 @@ use Rattle.vss_world.proofs.Words.{has_said, in_progress, is_among, is_done, is_
 use Rattle.vss_world.proofs.Words.{row_settled, runs, same_place, settled_row, step_made, true_not_false, unspoken, volumes-row_cut_if, volumes_of}
 use Rattle.set_agenda.specs.declared.kind.Kind.TheVariants.{Complete}
 use Rattle.set_agenda.specs.Course.{begun, posted, settled, failed as course_failed}
-use Rattle.vss_model.specs.Ending.{followed}
+use Rattle.vss_model.proofs.StateForm.{followed}
 use Rattle.vss_world.proofs.CommitLog.{committed_at_end, never_done}
 
 -- ## what writers say

@@ -2,7 +2,7 @@
 use Rattle.std.proofs.Common.{◌≡◌, ℕ, ◌<◌, List, [], ◌∷◌, ◌++◌, refl, ap, sym, ◌∙◌, subst, Bool, true, false, ◌&&◌, Option, Some, None, inl, map, not, is_ok, IfSome, OnOk, Result, Ok, Err}
 use Rattle.std.proofs.Common.{slice_get, arith}
 use Rattle.vss_world.proofs.Words.{Act, Agenda, AreGroups, AreKept, Call, Cause, Clean, Course, Evicted, Fault, Flush, Ghosts, Group, HasStepCause, History, IfStandFor}
-use Rattle.vss_world.proofs.Words.{IfStands, IsAt, IsMove, IsMoved, IsNextStep, IsOf, IsPrepared, IsSettled, Keeps, Kind, LastsAt, Leaves, Mark, NumberedFrom, Plan}
+use Rattle.vss_world.proofs.Words.{IfStands, IsAt, IsMove, IsMoved, IsNextStep, IsOf, IsPrepared, IsSettled, Keeps, LastsAt, Leaves, Mark, NumberedFrom, Plan}
 use Rattle.vss_world.proofs.Words.{Provider, ProviderValue, RoseAlone, RoseFor, SessionMove, SessionsValue, SetOutcome, SetRow, Settles, Stands, State, Told, UnexpectedProviderError, after}
 use Rattle.vss_world.proofs.Words.{after_move, after_provider, counts_of, course-step_made, cut_set, devices_of, dropped, event_volumes, false≢true, followed, groups_left, has_failed, images_after}
 use Rattle.vss_world.proofs.Words.{in_progress, is_done, is_fault, is_flush, is_snapshot, is_to_come, is_working, kept_trans, left, left-is, left_now, mark_if, mark_of}
@@ -19,7 +19,8 @@ use Rattle.vss_world.proofs.SetGoesOn.{GoesBy, GoesOn, IsOfAgenda, runs_snapshot
 use Rattle.vss_world.proofs.StepComes.{IsStepping, with_step, step_settles, step_leaves, made_elsewhere}
 use Rattle.vss_world.proofs.ToCome.{has_snapshot_set}
 use Rattle.vss_world.proofs.WithoutImages.{dropped_without}
-use Rattle.vss_model.specs.Steps.{stepped}
+use Rattle.vss_model.proofs.Changes.{cuts_are}
+use Rattle.vss_model.proofs.StateForm.{stepped}
 
 pub working : (x : SessionsValue) (group : Group) (volume : Option ℕ) (st : State) → IsNextStep x group volume → Keeps x st → is_working (left_now st) ≡ true
 working x group volume st next keeps = sym (ap is_working (left-is x.coordinator.kept st.course keeps.course.follows)) ∙ next.working
@@ -168,7 +169,7 @@ module _ {D : Type 0} (device : Ghosts D) (s : Plan) {m : SessionMove} {p q r : 
       let works = working x group volume st next stands.at.sessions in
       let set_is : q.set ≡ p.set = ap (λ (z : ProviderValue D). z.set) same in
       left_at acts stands (is_to_come (Some (with_step st.clock k.agenda))) (step_taken group q.set volume (provided st)) (step_made (Some group) st).volumes
-      (ap (λ (t : Told). event_volumes Provider t st) told_is)
+      (ap (λ (t : Told). event_volumes Provider t st) told_is ∙ ap (λ (x : State). x.volumes) (cuts_are (Some group) st))
       (made_set_move s q acts (told_act Provider m.outcome.told) group volume k (prepared_same p q st same stands.at.prepared) works (to acts stands))
       (subst (λ (n : ℕ). AreGroups device.told s q.groups (step_taken group n volume (provided st))) (sym set_is) (stands_so (provided st) stands.at.groups)))
       of tt

@@ -5,7 +5,7 @@ use Rattle.vss_world.proofs.Words.{ProviderValue, SessionMove, SessionsValue, St
 use Rattle.vss_world.proofs.Words.{later_by, mark_of, said_of, state, timed as course_timed}
 use Rattle.vss_world.specs.Words.{IsOf as IsSessionsOf}
 use Rattle.writer_calls.specs.declared.answer.Answer.{Answer}
-use Rattle.vss_model.specs.Steps.{answered, ticked}
+use Rattle.vss_model.proofs.StateForm.{answered, ticked}
 use Rattle.vss_world.proofs.Moved.{world_of, Goes, leaves_of, later_of, goes_on, goes_later}
 use Rattle.vss_world.proofs.Simple.{after_on}
 use Rattle.vss_world.proofs.SetGoesOn.{GoesOn, followed_goes}

@@ -7,16 +7,16 @@ use Rattle.vss_world.proofs.Words.{Revert, SessionMove, SessionsValue, Stands, S
 use Rattle.vss_world.proofs.Words.{is_flush, kept_image, kept_same, line, line_allows, mark_of, may_stop_after, nat_tests, next_volume, open_group}
 use Rattle.vss_world.proofs.Words.{restorable, revert_refusal, reverted_as, simple_outcome, state, tells_of, told_act, told_if, volume_by}
 use Rattle.vss_model.specs.Words.{Reads, ShowsBlock, ShowsImage, allows_by, line_of}
-use Rattle.provider.specs.Words.{counted_as}
+use Rattle.provider.specs.Words.{NeverFails, counted_as}
 use Rattle.provider.proofs.Words.{IsPut}
 use Rattle.scenario.specs.declared.line.Line.{Line as Does}
 use Rattle.scenario.specs.Bounds.{IsRangedBy}
 use Rattle.vss_model.specs.declared.told.Told.TheVariants as told
-use Rattle.vss_model.specs.Images.{revert}
+use Rattle.vss_model.proofs.StateForm.{revert}
 use Rattle.provider.specs.Calls.{StopsAfter as StopsInGroups}
 use Rattle.provider.proofs.Uncounted.{rose_at}
 use Rattle.vss_world.specs.declared.reply.Reply.{Reply as Answer}
-use Rattle.vss_world.specs.Moves.{HasMark, StopsAs, StopsAfter}
+use Rattle.vss_world.specs.Moves.{HasMark, IsToldStep, StopsAs, StopsAfter}
 use Rattle.vss_world.proofs.Moved.{world_of}
 use Rattle.vss_world.proofs.OnProvided.{writes_at}
 use Rattle.vss_world.proofs.Seen.{IsPlain, failed_moves}
@@ -24,6 +24,7 @@ use Rattle.vss_world.proofs.Looking.{provided_point}
 use Rattle.vss_world.proofs.Removed.{revert_is}
 use Rattle.vss_world.proofs.Step.{failed_moves as step_failed}
 use Rattle.vss_world.proofs.Unsaid.{unsaid, settled_unsaid}
+use Rattle.vss_model.proofs.ByEvent.{reply_is}
 
 -- ## lines that look at volumes and images
 
@@ -67,13 +68,17 @@ module _ {D : Type 0} (device : Ghosts D) {s : Plan} {p : ProviderValue D} {x : 
 -- a core whose devices are those of its groups
 pub looked : {D : Type 0} (device : Ghosts D) (s : Plan) (w : WorldValue D) (lane : ℕ) (op : Op) (v : ℕ) (looks : Does) → IsOf w s → line_of op ≡ looks → LooksAt v looks → IsOp s op
     → IfStands device.told w s (λ st. allows_by s st looks Fault ≡ true)
-    → IsMoved (counted_as device true) w (record w { evicted = [] }) s (Line lane op) (simple_outcome told.Fault)
+    → IsToldStep device w (record w { evicted = [] }) s (Line lane op) Fault (Moved (simple_outcome told.Fault))
 looked {D} device s w lane op v looks of is look range allowed =
     let same : world_of w.provider w.sessions w.listed w.evicted ≡ w = ap (λ (ds : List D). record w { devices = ds }) (sym of.devices) in
-    subst (λ (x : WorldValue D). IsMoved (counted_as device true) x (record x { evicted = [] }) s (Line lane op) (simple_outcome told.Fault)) same
-    (look_fails device (subst (λ (x : WorldValue D). IsOf x s) (sym same) of) refl v looks is look
-    (look_within s op v looks look (subst (IsRangedBy (length s.source) s.volumes (length s.writers) op) is range))
-    (λ acts stands. allowed acts (subst (λ (x : WorldValue D). Stands device.told x s acts) same stands)))
+    record {
+      stepped = subst (λ (x : WorldValue D). IsMoved (counted_as device true) x (record x { evicted = [] }) s (Line lane op) (simple_outcome told.Fault)) same
+          (look_fails device (subst (λ (x : WorldValue D). IsOf x s) (sym same) of) refl v looks is look
+          (look_within s op v looks look (subst (IsRangedBy (length s.source) s.volumes (length s.writers) op) is range))
+          (λ acts stands. allowed acts (subst (λ (x : WorldValue D). Stands device.told x s acts) same stands)));
+      marked = λ needs acts stands may. refl;
+      lasts = λ e. cc;
+    }
 
 -- ## writes
 
@@ -156,11 +161,21 @@ module _ {D : Type 0} (device : Ghosts D) (s : Plan) (old new : WorldValue D) (l
   has_stopped : mark_of o.told ≡ FaultAfter k
   has_stopped =
       let act = told_act (Line lane (Revert n v)) o.told in
-      by_mark (mark_of o.told) refl (moves.is_allowed acts stands) (moves.outcome acts (after s st act).course.rows stands refl).fits
+      by_mark (mark_of o.told) refl (moves.is_allowed acts stands)
+      (subst (λ told. Fits tells told o.told) (reply_is s st act) (moves.outcome acts (after s st act).course.rows stands refl).fits)
 
--- a revert that may stop there stopped there
-pub stop_mark : {D : Type 0} (device : Ghosts D) (s : Plan) (old new : WorldValue D) (lane n v k : ℕ) (reply : Answer)
+stop_mark : {D : Type 0} (device : Ghosts D) (s : Plan) (old new : WorldValue D) (lane n v k : ℕ) (reply : Answer)
     → IsStepped device old new s (Line lane (Revert n v)) reply → StopsAfter device.told old s n v k reply
     → IfStands device.told old s (λ st. may_stop_after s st v (kept_image st n v) k ≡ true → HasMark (FaultAfter k) reply)
 stop_mark device s old new lane n v k Blocked step stops acts stands allowed = tt
 stop_mark device s old new lane n v k (Moved o) moves stops acts stands allowed = has_stopped device s old new lane n v k o moves stops stands allowed
+
+-- a revert that may stop there stopped there
+pub stops_told : {D : Type 0} (device : Ghosts D) (s : Plan) (old new : WorldValue D) (lane n v k : ℕ) (reply : Answer)
+    → IsStepped (counted_as device true) old new s (Line lane (Revert n v)) reply → (NeverFails device.count → StopsAfter device.told old s n v k reply)
+    → IsToldStep device old new s (Line lane (Revert n v)) (FaultAfter k) reply
+stops_told device s old new lane n v k reply step stops = record {
+  stepped = step;
+  marked = λ never. stop_mark (counted_as device true) s old new lane n v k reply step (stops never);
+  lasts = λ e. cc;
+}

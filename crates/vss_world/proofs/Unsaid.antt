@@ -1,16 +1,17 @@
 -- A move, by counts of devices that say nothing of their faults.
 use Rattle.std.proofs.Common.{ℕ, zero, suc, List, [], ◌∷◌, Bool, true, false, Option, Some, None, map, arith}
-use Rattle.std.specs.Prelude.{Result, IfOk}
+use Rattle.std.specs.Prelude.{◌≡◌, Result, Ok, Err, IfOk, IsErr, OnErr}
 use Rattle.vss_world.proofs.Words.{AreKept, AreWithout, Blocked, Clean, Complete, Event, Evicted, Failed, Ghosts, GroupValue, IsEnded, IsReleased, IsSettled}
-use Rattle.vss_world.proofs.Words.{IsStepped, MakesRoom, Moved, Plan, ProviderValue, Reply, RoseAlone, RoseFor, Running, SessionMove, SessionsValue, SetOutcome, WorldValue, counts_of}
-use Rattle.vss_world.proofs.Words.{devices_of, later_same}
+use Rattle.vss_world.proofs.Words.{IsStepped, MakesRoom, Mark, Moved, Plan, ProviderValue, Reply, RoseAlone, RoseFor, Running, SessionMove, SessionsValue, SetOutcome, WorldValue, counts_of}
+use Rattle.vss_world.proofs.Words.{Provider, devices_of, later_same, listed_after}
 use Rattle.vss_names.specs.declared.out_of_memory.OutOfMemory.{OutOfMemory}
 use Rattle.provider.specs.Words.{NeverFails, uncounted}
 use Rattle.cow_volume.proofs.Uncounted.{same_counts, kept_uncounted, no_rise}
 use Rattle.provider.specs.Words.{counted_as}
 use Rattle.provider.proofs.Kept.{same_length}
 use Rattle.provider.proofs.Uncounted.{as_many, rose_unsaid}
-use Rattle.vss_world.specs.Moves.{HasMark}
+use Rattle.vss_world.specs.Moves.{HasMark, IsMarked, IsToldStep, StepLasts, takes_memory}
+use Rattle.vss_world.proofs.Listed.{listed_so}
 
 -- the devices as they are told to fail
 abbrev pub unsaid : {D : Type 0} → Ghosts D → Ghosts D
@@ -110,11 +111,20 @@ module _ {D : Type 0} (device : Ghosts D) where
       → HasMark Clean reply
   step_clean old new s event reply never step = grind (arith, never_alone)
 
-  -- the same where memory may be wanting
-  pub made_unsaid : (old new : WorldValue D) (s : Plan) (event : Event) (r : Result Reply OutOfMemory) → IfOk r (IsStepped device old new s event)
-      → IfOk r (IsStepped (unsaid device) old new s event)
-  made_unsaid old new s event r step = grind (arith, step_unsaid)
+  -- a step by the calls of the devices is one that is told to be clean
+  pub told_clean : (old new : WorldValue D) (s : Plan) (event : Event) (r : Result Reply OutOfMemory) → OnErr r (new ≡ old) → (IsErr r → takes_memory event ≡ true)
+      → IfOk r (IsStepped device old new s event) → (event ≡ Provider → IfOk r (StepLasts device new s)) → IsMarked device old new s event Clean r
+  told_clean old new s event (Ok reply) same takes step lasts = record {
+    stepped = step_unsaid old new s event reply step;
+    marked = λ never acts stands allowed. step_clean old new s event reply never step;
+    lasts = lasts;
+  }
+  told_clean old new s event (Err e) same takes step lasts = grind arith
 
-  pub made_clean : (old new : WorldValue D) (s : Plan) (event : Event) (r : Result Reply OutOfMemory) → NeverFails device.count
-      → IfOk r (IsStepped device old new s event) → IfOk r (HasMark Clean)
-  made_clean old new s event r never step = grind (arith, step_clean)
+  -- and the list of sets ends with it
+  pub told_listed : (old new : WorldValue D) (s : Plan) (event : Event) (mark : Mark) (reply : Reply) → IsToldStep device old new s event mark reply
+      → IsToldStep device old (record new { listed = listed_after reply new.listed }) s event mark reply
+  told_listed old new s event mark Blocked made =
+      record { stepped = listed_so (unsaid device) s event Blocked old new made.stepped; marked = made.marked; lasts = made.lasts }
+  told_listed old new s event mark (Moved o) made =
+      record { stepped = listed_so (unsaid device) s event (Moved o) old new made.stepped; marked = made.marked; lasts = made.lasts }

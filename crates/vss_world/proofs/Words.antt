@@ -15,21 +15,23 @@ pub use Rattle.vss_model.specs.Words.{Coded, Commit, Complete, Copy, Course, Cut
 pub use Rattle.vss_model.specs.Words.{Faulted, FaultedAfter, Fine, Fits, Flush, Freeze, FrontEnd, Gather, Go, Group, HasLists, HasNames, History, Hold, Identify, Image, ImageBlock, ImageDigest}
 pub use Rattle.vss_model.specs.Words.{IsBlock, IsDigestIf, IsFirstIf, IsInGroup, IsNewest, IsOfSession, IsOp, IsOutcome, IsPlan, Kept, KeptSets, Kind, Level, Mark, MaximumNumberOfSnapshotsReached}
 pub use Rattle.vss_model.specs.Words.{MaximumNumberOfVolumesReached, Member, Meta, Metadata, NothingEnds, NumberedFrom, ObjectAlreadyExists, ObjectNotFound, Ok, Op, Open, Order, Orders, OverButNewest}
-pub use Rattle.vss_model.specs.Words.{Pair, Place, Placed, Plan, PostCommit, PreCommit, Prepare, PrepareBackup, PrepareSnapshot, Properties, PropertiesOf, Query, Read, Refused, Release, Replied}
+pub use Rattle.vss_model.specs.Words.{Pair, Place, Placed, Plan, PostCommit, PreCommit, Prepare, PrepareBackup, PrepareSnapshot, Properties, PropertiesOf, Query, Read, Refused, Release}
+pub use Rattle.vss_model.proofs.StateForm.{Replied, add, add_to, change_set, cleared, concluded, cut_set, delete_kept, failed, failed_in, followed, happens, image_block, image_blocks, judged}
+pub use Rattle.vss_model.proofs.StateForm.{later, line, line_in, properties, put, refused, revert_to, reverted_as, step_made, stepped_as, with_room, with_room_if}
 pub use Rattle.vss_model.specs.Words.{Revert, Running, Said, Session, SetFails, SetOutcome, SetRow, Snapshot, SnapshotSetInProgress, Span, Start, State, StatusOf, System, Target, Tick}
-pub use Rattle.vss_model.specs.Words.{UnexpectedProviderError, UnsupportedContext, Verdict, VolumeRow, VssResult, Write, WriterPlan, WriterRow, act_of, add, add_refusal, add_to, after, after_if}
-pub use Rattle.vss_model.specs.Words.{after_set, all_say, allows, are_distinct, at_level, at_place, begun, blocks_in_group, blocks_named, blocks_of, bytes_of, call_in, call_of, change_at, change_set}
-pub use Rattle.vss_model.specs.Words.{check, check_other, cleared, concluded, content, contents, copies, copies_from, copies_of, copy_of, count_images, course_start, cut, cut_each, cut_if, cut_set}
-pub use Rattle.vss_model.specs.Words.{delete_kept, dropped, enabled, ended_of, ending, event_allows, evicted, evicted_for, evicted_of, evicted_up_to, failed, failed_in, first_row, followed, fresh}
-pub use Rattle.vss_model.specs.Words.{going_up_to, gone_up_to, group_code, group_of, group_slots, group_used, groups_left, happens, has_failed, has_image, has_lost_image, has_no_volume, has_said}
-pub use Rattle.vss_model.specs.Words.{has_writers, head_or_0, history_in, history_of, idle_now, image_block, image_blocks, in_progress, is_among, is_backup, is_complete, is_cut_group, is_done}
-pub use Rattle.vss_model.specs.Words.{is_failed_step, is_fault, is_flush, is_held, is_in_set, is_kept_set, is_live, is_orders, is_over_volumes, is_running, is_snapshot, is_working, judged, kept}
-pub use Rattle.vss_model.specs.Words.{kept_at, kept_if, kept_image, kept_of, lacks_slot, later, left, left_from, left_now, level_code, line, line_allows, line_enabled, line_in, lost, lost_order_if}
+pub use Rattle.vss_model.specs.Words.{UnexpectedProviderError, UnsupportedContext, Verdict, VolumeRow, VssResult, Write, WriterPlan, WriterRow, act_of, add_refusal, after}
+pub use Rattle.vss_model.specs.Words.{after_set, all_say, allows, are_distinct, at_level, at_place, begun, blocks_in_group, blocks_named, blocks_of, bytes_of, call_in, call_of, change_at}
+pub use Rattle.vss_model.specs.Words.{check, check_other, content, contents, copies, copies_from, copies_of, copy_of, count_images, course_start, cut, cut_each, cut_if}
+pub use Rattle.vss_model.specs.Words.{dropped, enabled, ended_of, ending, event_allows, evicted, evicted_for, evicted_of, evicted_up_to, first_row, fresh}
+pub use Rattle.vss_model.specs.Words.{going_up_to, gone_up_to, group_code, group_of, group_slots, group_used, groups_left, has_failed, has_image, has_lost_image, has_no_volume, has_said}
+pub use Rattle.vss_model.specs.Words.{has_writers, head_or_0, history_in, history_of, idle_now, in_progress, is_among, is_backup, is_complete, is_cut_group, is_done}
+pub use Rattle.vss_model.specs.Words.{is_failed_step, is_fault, is_flush, is_held, is_in_set, is_kept_set, is_live, is_orders, is_over_volumes, is_running, is_snapshot, is_working, kept}
+pub use Rattle.vss_model.specs.Words.{kept_at, kept_if, kept_image, kept_of, lacks_slot, left, left_from, left_now, level_code, line_allows, line_enabled, lost, lost_order_if}
 pub use Rattle.vss_model.specs.Words.{mark_if, mark_of, may_stop_after, member_if, members_from, members_of, meta_of, named, needs_slot_in, new_set, next_member, next_volume, of_group, open_group}
-pub use Rattle.vss_model.specs.Words.{open_place, order_now, outcome_after, owner_only, placed, places, plain, point_in, properties, put, read_as, refused, reply, restorable, revert_refusal}
-pub use Rattle.vss_model.specs.Words.{revert_to, reverted, reverted_as, reverted_in_part, row_changed, row_cut, row_gathered, row_of, row_of_writer, row_settled, runs, said_of, same_place}
-pub use Rattle.vss_model.specs.Words.{set_loses_image, sets_of, settled_if, settled_in, start, state, step_made, stepped, stepped_as, target_in, timed, to_restore, token, told_act, used, used_by}
-pub use Rattle.vss_model.specs.Words.{verdict_of, volume_if, volumes_losing, volumes_of, waited_for, with_cut, with_group, with_room, with_room_if, with_volume, without_set, writer_spans}
+pub use Rattle.vss_model.specs.Words.{open_place, order_now, outcome_after, owner_only, placed, places, plain, point_in, read_as, reply, restorable, revert_refusal}
+pub use Rattle.vss_model.specs.Words.{reverted, reverted_in_part, row_changed, row_cut, row_gathered, row_of, row_of_writer, row_settled, runs, said_of, same_place}
+pub use Rattle.vss_model.specs.Words.{set_loses_image, sets_of, settled_if, settled_in, start, state, stepped, target_in, timed, to_restore, token, told_act, used, used_by}
+pub use Rattle.vss_model.specs.Words.{verdict_of, volume_if, volumes_losing, volumes_of, waited_for, with_cut, with_group, with_volume, without_set, writer_spans}
 pub use Rattle.vss_model.specs.Words.{writes_since, written}
 pub use Rattle.vss_world.specs.Words.{Answer, Event, Idle, Line, Outcome, Provider, Told}
 pub use Rattle.provider.specs.declared.digested.Digested.{Digested}

@@ -1,16 +1,19 @@
 -- What a step of the core promises: it waits exactly where the event is not enabled, and else it is answered as defined, and stands for
 -- the acts with this one. (This project's own.)
-use Rattle.std.specs.Prelude.{ℕ, ◌≡◌, ◌<◌, ◌≤◌, Bool, true, false, List, [], ◌∷◌, ◌++◌, length, map, if◌then◌else◌, Option, Some, None, slice_get}
+use Rattle.std.specs.Prelude.{ℕ, ◌≡◌, ◌<◌, ◌≤◌, Bool, true, false, List, [], ◌∷◌, ◌++◌, length, map, if◌then◌else◌, Option, Some, None, Result, Ok, Err, slice_get}
+use Rattle.vss_names.specs.declared.out_of_memory.OutOfMemory.{OutOfMemory}
 use Rattle.volume_device.specs.declared.device.Device.{Ghosts}
 use Rattle.vss_model.specs.Words.{Act, Flush, IsOp, IsOutcome, Kept, Mark, Plan, Reads, Reverts, Running, ShowsBlock, ShowsImage, WriterRow, Writes, after, enabled, event_allows, is_fault}
 use Rattle.vss_model.specs.Words.{kept_image, line_of, mark_of, restorable, state, told_act}
 use Rattle.vss_world.specs.Words.{Answer as AnswerEvent, AreLater, Event, Line, Outcome, Provider, Told, takes_memory as takes_for, volume_place}
+use Rattle.provider.specs.Words.{NeverFails, counted_as}
 use Rattle.scenario.specs.declared.line.Line.{Line as Does}
 use Rattle.vss_model.specs.declared.told.Told.TheVariants as told
+use Rattle.write_history.specs.declared.mark.Mark.TheVariants.{Fault}
 use Rattle.vss_world.specs.declared.reply.Reply.{Reply}
 use Rattle.vss_world.specs.declared.reply.Reply.TheVariants.{Blocked, Moved}
 use Rattle.vss_world.specs.Devices.{tells_of, RoseFor}
-use Rattle.vss_world.specs.Stands.{WorldValue, IsOf, Stands}
+use Rattle.vss_world.specs.Stands.{WorldValue, IfStands, IsOf, Stands}
 
 -- ## events
 
@@ -89,6 +92,22 @@ StopsAfter blocks_told w s n v k (Moved o) = StopsAs blocks_told w s n v k o.tol
 abbrev pub StepLasts : {D : Type 0} → Ghosts D → WorldValue D → Plan → Reply → Type 0
 StepLasts device new s Blocked = Unit {0}
 StepLasts {D = D} device new s (Moved o) = (v : ℕ) (d : D) → o.told ≡ told.Step Flush (Some v) false → slice_get new.devices (volume_place s v) ≡ Some d → device.lasting d ≡ device.told d
+
+-- what a mark that is told needs: a failing call nothing, and the others that no call of a device fails
+abbrev pub MarkNeeds : {D : Type 0} → (D → ℕ) → Mark → Type 0
+MarkNeeds count Fault = Unit {0}
+MarkNeeds count mark = NeverFails count
+
+-- a step that is made with a mark that is told, if it may have that mark; counts rise as the marks tell
+pub record IsToldStep {D : Type 0} (device : Ghosts D) (old new : WorldValue D) (s : Plan) (event : Event) (mark : Mark) (reply : Reply) : Type 0 where
+  pub stepped : IsStepped (counted_as device true) old new s event reply
+  pub marked : MarkNeeds device.count mark → IfStands device.told old s (λ st. event_allows s st event mark ≡ true → HasMark mark reply)
+  pub lasts : event ≡ Provider → StepLasts device new s reply
+
+-- or it is out of memory, which only an event that takes memory may be, and nothing changed
+abbrev pub IsMarked : {D : Type 0} → Ghosts D → WorldValue D → WorldValue D → Plan → Event → Mark → Result Reply OutOfMemory → Type 0
+IsMarked device old new s event mark (Ok reply) = IsToldStep device old new s event mark reply
+IsMarked device old new s event mark (Err e) = (new ≡ old) × (takes_memory event ≡ true)
 
 -- an answer beside which sets are listed
 abbrev pub lists_sets : Told → Bool

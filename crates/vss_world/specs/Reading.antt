@@ -3,7 +3,7 @@
 use Rattle.std.specs.Prelude.{ℕ, ◌≡◌, ◌<◌, Bool, true, false, List, length, take, Option, Some, None, IfSome, slice_get}
 use Rattle.std.specs.List.{concat}
 use Rattle.vss_model.specs.Words.{IsDigestIf, Plan, State, blocks_of, content, contents, history_of, kept, point_in}
-use Rattle.vss_world.specs.Words.{HasCause, HasImage, IfShown, IsDigestTold, IsQuiet, ProviderValue, Told}
+use Rattle.vss_world.specs.Words.{HasCause, IfShown, IsDigestTold, IsQuiet, IsThere, ProviderValue, Told}
 use Rattle.provider.specs.Words.{Cause, Ghosts, IsBytes, sha256}
 use Rattle.provider.specs.declared.digested.Digested.{Digested}
 use Rattle.vss_model.specs.declared.told.Told.TheVariants as told
@@ -46,9 +46,9 @@ IsDigestSeen device s old new v set told.Fault = (fault : Cause) × IsReading de
 IsDigestSeen device s old new v set _ = ⊥
 
 -- where no image of the set stands on the volume, nothing changed and nothing is told
-abbrev pub IsSeenIf : {D : Type 0} → (D → Option (List (List ℕ))) → Plan → ProviderValue D → ProviderValue D → ℕ → ℕ → (Told → Type 0) → Option Told → Type 0
-IsSeenIf blocks_told s old new v set Seen None = HasImage blocks_told s old.groups v set false × (new ≡ old)
-IsSeenIf blocks_told s old new v set Seen (Some answer) = HasImage blocks_told s old.groups v set true × Seen answer
+abbrev pub IsSeenIf : {D : Type 0} → (D → Option (List (List ℕ))) → Plan → ProviderValue D → ProviderValue D → ℕ → Option ℕ → (Told → Type 0) → Option Told → Type 0
+IsSeenIf blocks_told s old new v set Seen None = IsThere blocks_told s old.groups v set false × (new ≡ old)
+IsSeenIf blocks_told s old new v set Seen (Some answer) = IsThere blocks_told s old.groups v set true × Seen answer
 
 -- ## against a state
 

@@ -1,15 +1,13 @@
 //! Events with a mark that is told: what they leave where a device fails so, without a failing call.
 
-ghost use Rattle.std.specs.Prelude.{[], ◌≡◌, ◌<◌, true, length, OnErr, IfOk};
+ghost use Rattle.std.specs.Prelude.{[], ◌≡◌, ◌<◌, true, length, IfOk, IsErr, OnErr};
 ghost use Rattle.scenario.specs.Bounds.{IsOp};
 ghost use Rattle.write_history.specs.declared.mark.Mark.TheVariants as mark;
-ghost use Rattle.vss_model.specs.Acts.{event_allows, line_allows};
 ghost use Rattle.vss_model.specs.declared.event.Event.TheVariants.{Line as LineEvent, Provider as ProviderEvent};
 ghost use Rattle.vss_model.specs.declared.told.Told.TheVariants as told;
-ghost use Rattle.provider.specs.Words.{NeverFails, counted_as};
 ghost use Rattle.vss_world.specs.declared.reply.Reply.TheVariants.{Moved};
-ghost use Rattle.vss_world.specs.Stands.{IsOf, IsStanding, IfStands};
-ghost use Rattle.vss_world.specs.Moves.{IsEvent, IsStepped, HasMark, simple_outcome};
+ghost use Rattle.vss_world.specs.Stands.{IsOf, IsStanding};
+ghost use Rattle.vss_world.specs.Moves.{AreListed, IsEvent, IsMarked, IsToldStep, simple_outcome, takes_memory};
 
 use crate::outcomes::told;
 use crate::reply::Reply;
@@ -24,8 +22,8 @@ use vss_names::OutOfMemory;
 use write_history::Mark;
 
 impl<D: Device> World<D> {
-    /// Makes an event, where it is enabled, with this mark: what it leaves where a call of a device fails as the mark says, though no
-    /// such call is made. Where the mark may not come with the event, it is a `step`. Want of memory changes nothing.
+    /// Makes an event with this mark, if it is enabled: what it leaves where a call of a device fails as the mark says, though no such
+    /// call is made. If the mark may not come with the event, it is a `step`.
     pub fn step_marked(
         &mut self,
         alloc: Global,
@@ -37,8 +35,10 @@ impl<D: Device> World<D> {
         requires standing { IsStanding D.told self.old scenario.now }
         requires in_range { IsEvent scenario.now event }
         ensures memory { OnErr result (self.new ≡ self.old) }
-        ensures stepped { IfOk result (IsStepped (counted_as D.Device true) self.old self.new scenario.now event) }
-        ensures marked { NeverFails D.count → IfStands D.told self.old scenario.now (λ st. event_allows scenario.now st event mark ≡ true → IfOk result (HasMark mark)) }
+        ensures takes { IsErr result → takes_memory event ≡ true }
+        ensures stepped { IfOk result
+            (IsToldStep D.Device self.old self.new scenario.now event mark) }
+        ensures listed { IfOk result (λ reply. AreListed reply self.new.listed) }
     {
         let reply = self.make_marked(alloc, scenario, event, mark)?;
         self.end_listing(reply);
@@ -56,9 +56,7 @@ impl<D: Device> World<D> {
         requires of { IsOf self.old scenario.now }
         requires standing { IsStanding D.told self.old scenario.now }
         requires in_range { IsEvent scenario.now event }
-        ensures memory { OnErr result (self.new ≡ self.old) }
-        ensures stepped { IfOk result (IsStepped (counted_as D.Device true) self.old self.new scenario.now event) }
-        ensures marked { NeverFails D.count → IfStands D.told self.old scenario.now (λ st. event_allows scenario.now st event mark ≡ true → IfOk result (HasMark mark)) }
+        ensures { IsMarked D.Device self.old self.new scenario.now event mark result }
     {
         match mark {
             Mark::Clean => self.make_clean(alloc, scenario, event),
@@ -77,9 +75,7 @@ impl<D: Device> World<D> {
         requires of { IsOf self.old scenario.now }
         requires standing { IsStanding D.told self.old scenario.now }
         requires in_range { IsEvent scenario.now event }
-        ensures memory { OnErr result (self.new ≡ self.old) }
-        ensures stepped { IfOk result (IsStepped (counted_as D.Device true) self.old self.new scenario.now event) }
-        ensures marked { NeverFails D.count → IfOk result (HasMark mark.Clean) }
+        ensures { IsMarked D.Device self.old self.new scenario.now event mark.Clean result }
     {
         self.make(alloc, scenario, event)
     }
@@ -94,9 +90,7 @@ impl<D: Device> World<D> {
         requires of { IsOf self.old scenario.now }
         requires standing { IsStanding D.told self.old scenario.now }
         requires in_range { IsEvent scenario.now event }
-        ensures memory { OnErr result (self.new ≡ self.old) }
-        ensures stepped { IfOk result (IsStepped (counted_as D.Device true) self.old self.new scenario.now event) }
-        ensures marked { IfStands D.told self.old scenario.now (λ st. event_allows scenario.now st event mark.Fault ≡ true → IfOk result (HasMark mark.Fault)) }
+        ensures { IsMarked D.Device self.old self.new scenario.now event mark.Fault result }
     {
         match event {
             Event::Line { lane, op } => self.fail_line(alloc, scenario, lane, op),
@@ -116,9 +110,8 @@ impl<D: Device> World<D> {
         requires of { IsOf self.old scenario.now }
         requires standing { IsStanding D.told self.old scenario.now }
         requires in_range { IsEvent scenario.now event }
-        ensures memory { OnErr result (self.new ≡ self.old) }
-        ensures stepped { IfOk result (IsStepped (counted_as D.Device true) self.old self.new scenario.now event) }
-        ensures marked { NeverFails D.count → IfStands D.told self.old scenario.now (λ st. event_allows scenario.now st event (mark.FaultAfter restored) ≡ true → IfOk result (HasMark (mark.FaultAfter restored))) }
+        ensures { IsMarked D.Device self.old self.new scenario.now event
+            (mark.FaultAfter restored) result }
     {
         match event {
             Event::Line {
@@ -141,9 +134,8 @@ impl<D: Device> World<D> {
         requires standing { IsStanding D.told self.old scenario.now }
         requires lane { lane < length scenario.now.lanes }
         requires in_range { IsOp scenario.now op }
-        ensures memory { OnErr result (self.new ≡ self.old) }
-        ensures stepped { IfOk result (IsStepped (counted_as D.Device true) self.old self.new scenario.now (LineEvent lane op)) }
-        ensures marked { IfStands D.told self.old scenario.now (λ st. line_allows scenario.now st op mark.Fault ≡ true → IfOk result (HasMark mark.Fault)) }
+        ensures { IsMarked D.Device self.old self.new scenario.now
+            (LineEvent lane op) mark.Fault result }
     {
         let event = Event::Line { lane, op };
         match op.line() {
@@ -182,8 +174,8 @@ impl<D: Device> World<D> {
     fn fail_step(&mut self, scenario: &Scenario) -> Reply
         requires of { IsOf self.old scenario.now }
         requires standing { IsStanding D.told self.old scenario.now }
-        ensures stepped { IsStepped (counted_as D.Device true) self.old self.new scenario.now ProviderEvent result }
-        ensures marked { IfStands D.told self.old scenario.now (λ st. event_allows scenario.now st ProviderEvent mark.Fault ≡ true → HasMark mark.Fault result) }
+        ensures { IsToldStep D.Device self.old self.new scenario.now
+            ProviderEvent mark.Fault result }
     {
         let Some(next) = self.sessions.next_step() else {
             return Reply::Blocked;

@@ -1,6 +1,6 @@
 //! What is read of a volume or of an image: in place where the device lends its blocks, and else by one buffer.
 
-ghost use Rattle.std.specs.Prelude.{◌<◌, length, None, Some};
+ghost use Rattle.std.specs.Prelude.{◌<◌, length, Some};
 ghost use Rattle.scenario.specs.Bounds.{IsBlock};
 ghost use Rattle.provider.specs.Groups.{HasGroups};
 ghost use Rattle.vss_world.specs.Reading.{IsBlockSeen, IsDigestSeen, IsSeenIf};
@@ -13,46 +13,25 @@ use scenario::Scenario;
 use volume_device::Device;
 use vss_model::Told;
 
-/// What is told of a block of a volume.
+/// What is told of a block of a volume, as it is or as the image of a set shows it; none where no such image stands.
 pub(crate) fn read_block<D: Device>(
     provider: &mut Provider<D>,
     scratch: &mut BlockBuf,
     scenario: &Scenario,
     volume: u32,
-    block: u32,
-) -> Told
-    requires block { IsBlock scenario.now volume block }
-    requires has { HasGroups scenario.now provider.old.groups }
-    ensures { IsBlockSeen D.Device scenario.now provider.old provider.new volume None block result }
-{
-    if let Some(bytes) = provider.lend_block(scenario, volume, block) {
-        return Fingerprint::of(bytes).told();
-    }
-    match provider.read_into(scenario, volume, block, scratch.bytes_mut()) {
-        Ok(()) => Fingerprint::of(scratch.bytes()).told(),
-        Err(_fault) => Told::Fault,
-    }
-}
-
-/// What is told of a block as the image of a set shows it; none where no such image stands.
-pub(crate) fn read_image<D: Device>(
-    provider: &mut Provider<D>,
-    scratch: &mut BlockBuf,
-    scenario: &Scenario,
-    set: u32,
-    volume: u32,
+    set: Option<u32>,
     block: u32,
 ) -> Option<Told>
     requires block { IsBlock scenario.now volume block }
     requires has { HasGroups scenario.now provider.old.groups }
-    ensures { IsSeenIf D.told scenario.now provider.old provider.new volume set (IsBlockSeen D.Device scenario.now provider.old provider.new volume (Some set) block) result }
+    ensures { IsSeenIf D.told scenario.now provider.old provider.new volume set (IsBlockSeen D.Device scenario.now provider.old provider.new volume set block) result }
 {
-    match provider.lend_image(scenario, set, volume, block) {
+    match provider.lend(scenario, volume, set, block) {
         Err(_fault) => return None,
         Ok(Some(bytes)) => return Some(Fingerprint::of(bytes).told()),
         Ok(None) => {}
     }
-    match provider.read_image_into(scenario, set, volume, block, scratch.bytes_mut()) {
+    match provider.read_into(scenario, volume, set, block, scratch.bytes_mut()) {
         Ok(()) => Some(Fingerprint::of(scratch.bytes()).told()),
         Err(ImageFault::NoSuchImage) => None,
         Err(_fault) => Some(Told::Fault),
@@ -68,9 +47,9 @@ pub(crate) fn digest_image<D: Device>(
 ) -> Option<Told>
     requires volume { volume < length scenario.now.volumes }
     requires has { HasGroups scenario.now provider.old.groups }
-    ensures { IsSeenIf D.told scenario.now provider.old provider.new volume set (IsDigestSeen D.Device scenario.now provider.old provider.new volume (Some set)) result }
+    ensures { IsSeenIf D.told scenario.now provider.old provider.new volume (Some set) (IsDigestSeen D.Device scenario.now provider.old provider.new volume (Some set)) result }
 {
-    match provider.digest_image(scenario, set, volume) {
+    match provider.digest(scenario, volume, Some(set)) {
         Ok(digest) => Some(Told::Digest(digest)),
         Err(ImageFault::NoSuchImage) => None,
         Err(_fault) => Some(Told::Fault),

@@ -11,7 +11,7 @@ ghost use Rattle.vss_world.specs.Moves.{IsStepped};
 ghost use Rattle.vss_world.specs.Quiet.{AreKeptSets};
 
 use crate::outcomes::{coded, told};
-use crate::reading::{digest_image, read_block, read_image};
+use crate::reading::{digest_image, read_block};
 use crate::reply::Reply;
 use crate::world::World;
 use provider::Provider;
@@ -40,7 +40,16 @@ impl<D: Device> World<D> {
         requires in_range { IsBlock scenario.now volume block }
         ensures { IsStepped D.Device self.old self.new scenario.now (Line lane (op.Read volume block)) result }
     {
-        let answer = read_block(&mut self.provider, &mut self.block, scenario, volume, block);
+        let Some(answer) = read_block(
+            &mut self.provider,
+            &mut self.block,
+            scenario,
+            volume,
+            None,
+            block,
+        ) else {
+            unreachable!();
+        };
         self.evicted.clear();
         told(answer)
     }
@@ -63,12 +72,12 @@ impl<D: Device> World<D> {
         if !kept {
             return coded(VssResult::ObjectNotFound);
         }
-        let Some(answer) = read_image(
+        let Some(answer) = read_block(
             &mut self.provider,
             &mut self.block,
             scenario,
-            set,
             volume,
+            Some(set),
             block,
         ) else {
             return coded(VssResult::ObjectNotFound);

@@ -2,7 +2,7 @@ ghost use Rattle.std.specs.Prelude.{ℕ, ◌≡◌, ◌<◌, ◌≤◌, Bool, tr
 ghost use Rattle.std.specs.List.{concat};
 ghost use Rattle.write_history.specs.History.{contents, point_in, sets_of};
 ghost use Rattle.write_history.specs.Slots.{used};
-ghost use Rattle.scenario.specs.Plan.{blocks_of};
+ghost use Rattle.scenario.specs.Plan.{Plan, blocks_of};
 ghost use Rattle.scenario.specs.declared.op.Op.TheVariants as op;
 ghost use Rattle.coordinator.specs.OpenOrders.{standing_in};
 ghost use Rattle.sessions.specs.Moves.{IsNextStep};
@@ -24,7 +24,7 @@ use crate::listed_sets::ListedSets;
 use crate::reply::Reply;
 use crate::showing::kept_sets;
 use block_data::BlockBuf;
-use cow_volume::{Cause, CowGroup, ImageFault};
+use cow_volume::{Cause, CowGroup};
 use provider::{DigestsOf, Provider, ReadyDigests};
 use scenario::Scenario;
 use sessions::Sessions;
@@ -171,7 +171,8 @@ impl<D: Device> World<D> {
 
     /// The provider's next step and its volume; none if the provider has no step to make.
     pub fn next_step(&self) -> Option<(Group, Option<u32>)>
-        ensures { IfSome result (λ step. IsNextStep self.now.sessions step.0 step.1) }
+        ensures working { (s : Plan) → IfStands D.told self.now s (λ st. is_some result ≡ enabled s st ProviderEvent) }
+        ensures step { IfSome result (λ step. IsNextStep self.now.sessions step.0 step.1) }
     {
         self.sessions.next_step()
     }
@@ -248,7 +249,10 @@ impl<D: Device> World<D> {
         ensures same { OnOk result (map D.count self.new.devices ≡ map D.count self.old.devices) }
         ensures cause { IfErr result (λ fault. HasFailed scenario.now volume fault (map D.count self.old.devices) (map D.count self.new.devices)) }
     {
-        self.provider.digest(scenario, volume)
+        match self.provider.digest(scenario, volume, None) {
+            Ok(digest) => Ok(digest),
+            Err(fault) => Err(fault.cause()),
+        }
     }
 
     /// The SHA-256 of all blocks of a kept image, in order.
@@ -268,12 +272,9 @@ impl<D: Device> World<D> {
         ensures same { OnOk result (map D.count self.new.devices ≡ map D.count self.old.devices) }
         ensures cause { IfErr result (λ fault. HasFailed scenario.now volume fault (map D.count self.old.devices) (map D.count self.new.devices)) }
     {
-        match self.provider.digest_image(scenario, set, volume) {
+        match self.provider.digest(scenario, volume, Some(set)) {
             Ok(digest) => Ok(digest),
-            Err(ImageFault::Volume) => Err(Cause::Volume),
-            Err(ImageFault::Area) => Err(Cause::Area),
-            Err(ImageFault::NoSuchImage) => unreachable!(),
-            Err(ImageFault::NoSuchBlock) => unreachable!(),
+            Err(fault) => Err(fault.cause()),
         }
     }
 

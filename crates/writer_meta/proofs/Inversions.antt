@@ -1,7 +1,9 @@
 -- What a document says is allowed.
-use Rattle.std.proofs.Common.{◌≡◌, ℕ, ◌+◌, ◌≤◌, ◌&&◌, List, [], ◌∷◌, length, Bool, true, Option, Some, None, Result, Ok, Err, nat_le, if◌then◌else◌, refl, subst, arith}
+use Rattle.std.proofs.Common.{◌≡◌, ℕ, ◌+◌, ◌≤◌, List, [], ◌∷◌, length, Bool, true, Option, Some, None, Result, Ok, Err, nat_le, if◌then◌else◌, refl, subst, arith}
 use Rattle.std.proofs.lemmas.Bool.Decides.{nat_tests}
 use Rattle.std.specs.List.{list_all}
+use Rattle.std.proofs.lemmas.Grind.{common_steps}
+use Rattle.std.proofs.lemmas.Bool.{and_from}
 use Rattle.serde_json.specs.Data.{Data, null, boolean, number, string, array, object, Items, no_items, item, Members}
 use Rattle.serde_json.specs.Find.{as_object}
 use Rattle.writer_meta.specs.declared.field.Field.{Field}
@@ -11,9 +13,6 @@ use Rattle.writer_meta.specs.Refusal.{Refusal}
 use Rattle.writer_meta.specs.Values.{is_writer_name, is_component_name, is_path, is_freeze_timeout, some_if, string_value, path_value}
 use Rattle.writer_meta.specs.Document.{then_on, optional, name_in, freeze_timeout_in, path_in, component_name_in, kind_in, selectable_in, PartRows, rows_in, rows_of_part, part_of_members, part_in, parts_in, count_of, double_after, unless_double, unless_unknown, list_of_parts}
 use Rattle.writer_meta.specs.Allowed.{is_allowed_part}
-
-both : (a b : Bool) → a ≡ true → b ≡ true → (a && b) ≡ true
-both a b x y = rw (x, y) refl
 
 same_value : {A : Type 0} (x y : A) → ◌≡◌ {A = Result A Refusal} (Ok x) (Ok y) → x ≡ y
 same_value x y e = cc
@@ -60,7 +59,7 @@ rows_of_part-allowed rows part e =
     let name = then_on-Ok (component_name_in rows.name) _ part path.2 in
     let selectable = then_on-Ok (selectable_in rows.selectable) _ part name.2 in
     subst (λ p. is_allowed_part p ≡ true) (same_value _ part selectable.2)
-    (both _ _ (path_in-allowed rows.path path.0 path.1) (component_name_in-allowed rows.name name.0 name.1))
+    (and_from _ _ (path_in-allowed rows.path path.0 path.1) (component_name_in-allowed rows.name name.0 name.1))
 
 from_unless_unknown : {A : Type 0} (unknown : Option (List ℕ)) (said : Result A Refusal) (x : A) → unless_unknown unknown said ≡ Ok x → said ≡ Ok x
 from_unless_unknown unknown said x e = grind arith
@@ -75,15 +74,13 @@ part_in-allowed d part e = part_of_members-allowed (as_object d) part e
 
 parts_in-allowed : (items : Items) (parts : List Part) → parts_in items ≡ Ok parts → (list_all is_allowed_part parts ≡ true) × (length parts ≡ count_of items)
 unfolding parts_in
-parts_in-allowed no_items parts e =
-    let none : [] ≡ parts = same_value [] parts e in
-    subst (λ ps. (list_all is_allowed_part ps ≡ true) × (length ps ≡ 0)) none (refl, refl)
+parts_in-allowed no_items parts e = grind (arith, common_steps, same_value)
 parts_in-allowed (item d more) parts e =
     let part = then_on-Ok (part_in d) _ parts e in
     let others = then_on-Ok (parts_in more) _ parts part.2 in
     let rest = parts_in-allowed more others.0 others.1 in
     subst (λ ps. (list_all is_allowed_part ps ≡ true) × (length ps ≡ count_of more + 1)) (same_value (part.0 ∷ others.0) parts others.2)
-    (both _ _ (part_in-allowed d part.0 part.1) rest.0, omega (arith, rest.1))
+    (and_from _ _ (part_in-allowed d part.0 part.1) rest.0, omega (arith, rest.1))
 
 from_unless_double : (double : Option (List ℕ)) (parts found : List Part) → unless_double double parts ≡ Ok found → (double ≡ None) × (parts ≡ found)
 from_unless_double double parts found e = grind arith

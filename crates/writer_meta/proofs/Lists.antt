@@ -1,9 +1,10 @@
 -- The lists of a JSON value, step by step.
-use Rattle.std.proofs.Common.{◌≡◌, ◌↔◌, ℕ, ◌+◌, ◌<◌, ◌≤◌, List, [], ◌∷◌, ◌++◌, length, get_or, drop, map, Option, Some, None, Result, Ok, Err, IsOk, refl, sym, ap, ◌∙◌, arith, append_assoc, append-nil, Bool, true, false, ◌||◌, cond, nat_le, string_bytes}
+use Rattle.std.proofs.Common.{◌≡◌, ◌↔◌, ℕ, ◌+◌, ◌<◌, ◌≤◌, List, [], ◌∷◌, ◌++◌, length, get_or, drop, map, Option, Some, None, Result, Ok, Err, IsOk, refl, sym, ap, ◌∙◌, arith, append-nil, Bool, true, false, ◌||◌, cond, nat_le, string_bytes}
 use Rattle.std.proofs.lemmas.Bool.Decides.{nat_tests}
 use Rattle.std.proofs.lemmas.List.{drop_more, drop_all, map-append}
 use Rattle.std.specs.List.{list_any}
 use Rattle.std.specs.Str.{bytes_eq}
+use Rattle.std.proofs.lemmas.Grind.{common_steps}
 use Rattle.serde_json.specs.View.{view, items_view, members_view}
 use Rattle.serde_json.proofs.Views.{Entry}
 use Rattle.serde_json.specs.declared.value.Value.{Value}
@@ -41,8 +42,7 @@ abbrev pub after : List Part → Result (List Part) Refusal → Result (List Par
 after parts more = then_on more (λ others. Ok (parts ++ others))
 
 after_one_more : (parts : List Part) (part : Part) (more : Result (List Part) Refusal) → after parts (then_on more (λ others. Ok (part ∷ others))) ≡ after (parts ++ part ∷ []) more
-after_one_more parts part (Ok others) = ap Ok (sym (append_assoc parts (part ∷ []) others))
-after_one_more parts part (Err refusal) = refl
+after_one_more parts part more = grind (arith, common_steps)
 
 -- one value more
 pub after-more : (values : List Value) (i : ℕ) (v : Value) (parts : List Part) (part : Part) → i < length values → v ≡ get_or values i v → part_in (view v) ≡ Ok part
@@ -99,15 +99,8 @@ has-one_more same old new among x y updated is had = grind arith
 pub copied_more : (components copies : List Component) (i : ℕ) (c copy : Component) → i < length components → c ≡ get_or components i c → part_of copy ≡ part_of c
     → map part_of copies ++ map part_of (drop i components) ≡ map part_of components
     → map part_of (copies ++ copy ∷ []) ++ map part_of (drop (i + 1) components) ≡ map part_of components
-copied_more components copies i c copy within is same so_far =
-    let here : drop i components ≡ c ∷ drop (i + 1) components = drop_more components i c within ∙ ap (λ w. w ∷ drop (i + 1) components) (sym is) in
-    ap (λ ps. ps ++ map part_of (drop (i + 1) components)) (map-append part_of copies (copy ∷ []))
-    ∙ append_assoc (map part_of copies) (part_of copy ∷ []) (map part_of (drop (i + 1) components))
-    ∙ ap (λ p. map part_of copies ++ (p ∷ map part_of (drop (i + 1) components))) same
-    ∙ ap (λ cs. map part_of copies ++ map part_of cs) (sym here)
-    ∙ so_far
+copied_more components copies i c copy within is same so_far = grind (arith, common_steps, drop_more, map-append)
 
 pub copied_all : (components copies : List Component) (i : ℕ) → length components ≤ i
     → map part_of copies ++ map part_of (drop i components) ≡ map part_of components → map part_of copies ≡ map part_of components
-copied_all components copies i past so_far =
-    sym (append-nil (map part_of copies)) ∙ ap (λ cs. map part_of copies ++ map part_of cs) (sym (drop_all i components past)) ∙ so_far
+copied_all components copies i past so_far = grind (arith, common_steps, drop_all)

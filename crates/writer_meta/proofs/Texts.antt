@@ -1,9 +1,10 @@
 -- Texts that the format allows are UTF-8.
-use Rattle.std.proofs.Common.{◌&&◌, Result, IsOk, MatchResult, ◌≡◌, ℕ, zero, suc, ◌<◌, List, [], ◌∷◌, true, IsUtf8, nat_le, arith}
+use Rattle.std.proofs.Common.{◌&&◌, Result, IsOk, MatchResult, ◌≡◌, ℕ, ◌<◌, List, true, IsUtf8, nat_le, arith}
 use Rattle.std.proofs.lemmas.Bool.Decides.{nat_tests}
 use Rattle.std.proofs.lemmas.Str.{IsUtf8-from_ascii}
 use Rattle.std.specs.Str.{IsAscii}
 use Rattle.std.specs.List.{list_all}
+use Rattle.std.proofs.lemmas.Grind.{common_steps}
 use Rattle.writer_meta.specs.Values.{is_printable, is_writer_name, is_component_name, is_path}
 use Rattle.writer_meta.proofs.Laws.{and_left, and_right}
 
@@ -11,9 +12,7 @@ below : {byte : ℕ} → nat_le byte 126 ≡ true → byte < 128
 below passes = grind (arith, nat_tests)
 
 IsAscii-printable : (bytes : List ℕ) → list_all is_printable bytes ≡ true → IsAscii bytes
-IsAscii-printable [] printable i = omega arith
-IsAscii-printable (byte ∷ bytes) printable zero = below (and_right _ (nat_le byte 126) (and_left _ _ printable))
-IsAscii-printable (byte ∷ bytes) printable (suc i) = IsAscii-printable bytes (and_right (is_printable byte) _ printable) i
+IsAscii-printable bytes printable i = grind (arith, common_steps, below, and_right, and_left)
 
 pub IsUtf8-printable : (bytes : List ℕ) → list_all is_printable bytes ≡ true → IsUtf8 bytes
 IsUtf8-printable bytes printable = IsUtf8-from_ascii bytes (IsAscii-printable bytes printable)

@@ -105,6 +105,9 @@ pub fn say_bad_byte(
 
 /// Says what a text has in a line.
 pub fn say_line(notes: &mut Notes, text: &[u8], line: u32) -> Result<(), OutOfMemory> {
+    if text.is_empty() {
+        return notes.add("it is empty");
+    }
     let there = line_at(text, line);
     notes.say("it has `{}` there", &[Shown(there)])?;
     match there.last() {

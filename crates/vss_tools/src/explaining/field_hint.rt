@@ -60,6 +60,9 @@ fn say_swapped(notes: &mut Notes, bad: &BadLine<'_>) -> Result<(), OutOfMemory> 
     if next.is_empty() || are_digits(next) == are_digits(bad.found()) {
         return Ok(());
     }
+    if bad.found() == b"set".as_slice() {
+        return notes.add("the number of the set alone is written, without the word `set`");
+    }
     let behind = part(rest, next.len(), rest.len());
     notes.say(
         "did you mean `{}{} {}{}`?",

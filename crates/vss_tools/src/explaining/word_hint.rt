@@ -86,14 +86,15 @@ pub fn file_at<'a>(
     name: &'a str,
 ) -> Option<&'a str> {
     let word = word_at(notes, words, at, name)?;
-    if word.is_empty() || word.starts_with("-") {
-        let _ = notes.say(
-            "{} is `{}`: a file whose name begins with `-` is `./{}`, and no name is empty",
-            &[Words(name), Words(word), Words(word)],
-        );
-        return None;
-    }
-    Some(word)
+    let form = if word.is_empty() {
+        "{} is empty, and no name of a file"
+    } else if word.starts_with("-") {
+        "{} is `{}`: a file whose name begins with `-` is `./{}`"
+    } else {
+        return Some(word);
+    };
+    let _ = notes.say(form, &[Words(name), Words(word), Words(word)]);
+    None
 }
 
 /// The number that a word is, or none where it is none from one to another, which is said.

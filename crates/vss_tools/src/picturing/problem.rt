@@ -34,8 +34,8 @@ impl fmt::Display for Problem {
         f.write_str(match self {
             Problem::Unread(why) => return write!(f, "{why}"),
             Problem::NoScenario(reason) => return write!(f, "{reason}"),
-            Problem::ReadFault => "read fault",
-            Problem::NoText => "no text",
+            Problem::ReadFault => "could not be read to its end: is it closed, or a folder?",
+            Problem::NoText => "no text: is it a report, as the program wrote it?",
             Problem::Refused(Fault::NoLine) => "no line of a report",
             Problem::Refused(Fault::UnknownName) => "a name that the scenario does not declare",
             Problem::Refused(Fault::OtherLine) =>

@@ -36,6 +36,10 @@ fn files_of<'a>(notes: &mut Notes, words: &'a [String]) -> Option<Option<(&'a st
         return Some(None);
     }
     let scenario = file_at(notes, words, 0, "SCENARIO")?;
+    if words.len() == 1 {
+        let _ = notes.add("REPORT is missing; a report alone is read so: ./timeline < REPORT");
+        return None;
+    }
     let report = file_at(notes, words, 1, "REPORT")?;
     if let Some(more) = words.get(2) {
         let form = "`{}` is one word too many; options stand before the names of the files";
@@ -76,6 +80,11 @@ impl<'a> Request<'a> {
                 _ => break,
             }
             at = at.saturating_add(1);
+        }
+        let is_other = matches!(request.form, Form::Lines) || request.axis == Axis::Clock;
+        if request.is_overview && is_other {
+            let _ = notes.add("`--overview` stands without `--text` and `--clock`");
+            return None;
         }
         request.files = files_of(notes, words.get(at..)?)?;
         Some(request)

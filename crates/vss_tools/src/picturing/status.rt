@@ -1,4 +1,5 @@
 use super::bad::Bad;
+use crate::reading::WRITE_FAULT;
 use std::fmt;
 use timeline::Span;
 
@@ -54,7 +55,7 @@ impl fmt::Display for Status<'_> {
                     span.from, span.to
                 )
             }
-            Status::WriteFault => f.write_str("write fault"),
+            Status::WriteFault => f.write_str(WRITE_FAULT),
             Status::OutOfMemory => f.write_str("out of memory"),
             Status::Bad(bad) => write!(f, "{bad}"),
         }

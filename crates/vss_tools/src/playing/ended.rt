@@ -1,4 +1,4 @@
-use crate::reading::Unread;
+use crate::reading::{Unread, WRITE_FAULT};
 use orders::{Replayed, Status, Why};
 use scenario::Reason;
 use std::fmt;
@@ -117,7 +117,7 @@ fn write_called<W: fmt::Write>(
         Status::MayNotCome { entry, why } => {
             write!(f, "{order}: {place} {}: {}", entry.place, hindrance(why))
         }
-        Status::WriteFault => f.write_str("write fault"),
+        Status::WriteFault => f.write_str(WRITE_FAULT),
         Status::DeviceFault => f.write_str("device fault"),
         Status::OutOfMemory => f.write_str("out of memory"),
     }

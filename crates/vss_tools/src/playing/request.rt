@@ -9,6 +9,9 @@ const TASKS: [&[u8]; 5] = [b"order", b"again", b"seed", b"many", b"with"];
 /// The most jobs.
 const MOST_JOBS: u32 = 1024;
 
+/// Of the number of jobs elsewhere.
+const JOBS: &str = "`-j JOBS`, two words, stands behind `many`";
+
 /// What the words of the program ask for. Texts are named by their files.
 #[derive(Clone, Copy)]
 pub enum Request<'a> {
@@ -79,7 +82,7 @@ impl<'a> Request<'a> {
         if let Some(more) = words.get(count) {
             let form = match more.as_str() {
                 "with" => "`{} DEVICE CALL NUMBERS` stands before the task",
-                "-j" => "`{} JOBS` stands behind `many`",
+                "-j" => JOBS,
                 _ => "`{}` is one word too many; a name with spaces stands in quotes",
             };
             let _ = notes.say(form, &[Shown(more.as_bytes())]);
@@ -119,10 +122,15 @@ impl<'a> Request<'a> {
             jobs = Some(number_of(notes, "the number of jobs", word, 1, MOST_JOBS)?);
             at = 3;
         }
-        let count = word_at(notes, words, at, "COUNT")?;
+        let rest = words.get(at..).unwrap_or(&[]);
+        if rest.iter().any(|word| word.as_str().starts_with("-j")) {
+            let _ = notes.add(JOBS);
+            return None;
+        }
+        let count = word_at(notes, rest, 0, "COUNT")?;
         let request = Request::Many {
             count: number_of(notes, "COUNT", count, 1, u32::MAX)?,
-            scenario: file_at(notes, words, at.saturating_add(1), "SCENARIO")?,
+            scenario: file_at(notes, rest, 1, "SCENARIO")?,
             jobs,
         };
         Some((request, at.saturating_add(2)))

@@ -283,12 +283,18 @@ fn say_actors(notes: &mut Notes, asked: Asked<'_>) -> Result<(), OutOfMemory> {
     notes.say("moves are those of {}", &[Words(list.as_str())])
 }
 
+/// Says what a report has in a line that is another than expected.
+fn say_unlike(notes: &mut Notes, asked: Asked<'_>, line: u32) -> Result<(), OutOfMemory> {
+    say_line(notes, asked.order, line)?;
+    notes.add("is it a report of this scenario, as the program wrote it?")
+}
+
 /// Says what helps to go on where a call ended so.
 pub fn say_called(notes: &mut Notes, asked: Asked<'_>, status: Status) -> Result<(), OutOfMemory> {
     match status {
         Status::ScenarioRefused { .. } => say_scenario(notes, asked),
         Status::MayNotCome { entry, .. } => say_standstill(notes, asked, entry.actor),
-        Status::NoReport { line } => say_line(notes, asked.order, line),
+        Status::NoReport { line } => say_unlike(notes, asked, line),
         Status::OrderRefused { line, .. } => {
             say_line(notes, asked.order, line)?;
             say_actors(notes, asked)
@@ -313,6 +319,5 @@ pub fn say_again(
             "the report ends there: was all of it written, and is it of this scenario?",
         );
     }
-    say_line(notes, asked.order, line)?;
-    notes.add("is it a report of this scenario, as the program wrote it?")
+    say_unlike(notes, asked, line)
 }

@@ -2,4 +2,4 @@ use Rattle.std.specs.Prelude.{◌≡◌}
 use Rattle.image_folder.proofs.device_file.read_whole.Given as goal
 
 abbrev pub invariant-loop-index : goal.invariant-loop-index
-invariant-loop-index l = l.device.file.blocks ≡ l.fn.device.file.blocks
+invariant-loop-index l = l.device.blocks ≡ l.fn.device.blocks

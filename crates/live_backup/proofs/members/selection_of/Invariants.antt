@@ -3,5 +3,5 @@ use Rattle.component_doc.specs.Held.{is_named}
 use Rattle.live_backup.proofs.members.selection_of.Given as goal
 
 -- components are named one by one, over all writers
-abbrev pub invariant-loop-taken : goal.invariant-loop-taken
-invariant-loop-taken l = (l.selection.writers ≡ length l.metas) × (is_named l.selection.selected ≡ true)
+abbrev pub invariant-loop-place : goal.invariant-loop-place
+invariant-loop-place l = (l.selection.writers ≡ length l.metas) × (is_named l.selection.selected ≡ true)

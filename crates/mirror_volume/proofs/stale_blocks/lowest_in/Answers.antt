@@ -17,7 +17,6 @@ pub loop-block-preserved : goal.loop-block-preserved
 loop-block-preserved c =
     let out = taken_lowest c.loop-block.queue c.take.new.self c.in-Some.block c.take.result c.in-Some.ensures.lowest c.take.ensures.lowest c.take.ensures.taken c.take.ensures.none in
     let low = slice_get_within c.loop-block.queue c.in-Some.block _ c.in-Some.ensures.lowest.free in
-    let long = c.loop-block.invariant.long in
     let within : c.in-Some.block < length c.args.stale.now = omega arith in
     let at = bool_at c.args.stale.now c.in-Some.block _ false within c.if-stale-block.false in
     subst (λ (q : List Bool). HoldsStale c.args.stale.now q) (sym out) (taken_out c.args.stale.now c.loop-block.queue c.in-Some.block c.loop-block.invariant at)

@@ -4,8 +4,12 @@ use Rattle.cow_volume.proofs.GroupSteps.{whole_written}
 use Rattle.provider.proofs.Found.{at_seen}
 use Rattle.provider.proofs.digesting.add_shared.Goals as goal
 
-pub returns-in-Some : goal.returns-in-Some
-returns-in-Some g c = λ is. record { bytes = c.in-Some.bytes.now; is = c.in-Some.ensures; taken = c.add.ensures }
+pub returns-in-Ok-Some : goal.returns-in-Ok-Some
+returns-in-Ok-Some g c = λ is. record {
+  bytes = c.in-Ok-Some.bytes.now;
+  is = at_seen g.D.Device.told c.args.group.now c.args.volume c.args.set c.args.block c.in-Ok-Some.bytes.now (rw c.in-Ok-Some.field-0-is at c.in-Ok-Some.ensures.seen);
+  taken = c.add.ensures;
+}
 
 pub returns : goal.returns
 returns g c = λ is.

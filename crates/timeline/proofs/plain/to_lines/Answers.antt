@@ -4,5 +4,4 @@ use Rattle.timeline.proofs.Growing.{is_lines_none}
 use Rattle.timeline.proofs.plain.to_lines.Goals as goal
 
 pub returns : goal.returns
-returns c =
-    c.in_ok-add_marks.ensures (c.in_ok-add_heading.ensures (c.in_ok-add_shown.ensures (c.in_ok-add_title.ensures (subst IsLines (sym c.new-out.ensures) is_lines_none))))
+returns c = c.in_ok-add_all.ensures (subst IsLines (sym c.new-out.ensures) is_lines_none)

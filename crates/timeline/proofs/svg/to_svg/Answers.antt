@@ -4,4 +4,4 @@ use Rattle.timeline.proofs.Growing.{drawn_none}
 use Rattle.timeline.proofs.svg.to_svg.Goals as goal
 
 pub returns : goal.returns
-returns c = c.in_ok-add_parts-2.ensures (c.in_ok-begun.ensures (c.in_ok-add_parts.ensures (subst IsDrawn (sym c.new-out.ensures) drawn_none)))
+returns c = c.in_ok-add_all.ensures (subst IsDrawn (sym c.new-out.ensures) drawn_none)

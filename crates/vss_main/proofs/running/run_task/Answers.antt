@@ -1,5 +1,5 @@
 use Rattle.std.proofs.Common.{refl}
-use Rattle.command_words.specs.declared.task.Task.TheVariants.{Run, Generate}
+use Rattle.vss_main.specs.declared.task.Task.TheVariants.{Run, Generate}
 use Rattle.vss_main.proofs.Asking.{task_as, where_as, most_as}
 use Rattle.vss_main.proofs.running.run_task.Goals as goal
 

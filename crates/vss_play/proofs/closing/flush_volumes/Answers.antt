@@ -25,8 +25,8 @@ pub returns-in-Err-clause-quiet : goal.returns-in-Err-clause-quiet
 returns-in-Err-clause-quiet g c =
     quiet_trans g.D.Device c.args.world.now c.loop-volume.world c.flush.new.self c.args.scenario.now c.loop-volume.invariant.0 c.in-Err.ensures.quiet
 
-pub returns-in-Err-clause-rose : goal.returns-in-Err-clause-rose
-returns-in-Err-clause-rose g c = λ e. any_earlier _ _ _ c.loop-volume.invariant.0.later (rose_failed c.args.scenario.now c.loop-volume.volume c.in-Err._fault _ _ c.in-Err.ensures.cause)
+pub returns-in-Err-clause-counts : goal.returns-in-Err-clause-counts
+returns-in-Err-clause-counts g c = any_earlier _ _ _ c.loop-volume.invariant.0.later (rose_failed c.args.scenario.now c.loop-volume.volume c.in-Err._fault _ _ c.in-Err.ensures.cause)
 
 pub returns-clause-lasted : goal.returns-clause-lasted
 returns-clause-lasted g c = each_volume g.D.Device c.args.scenario.now c.loop-volume.world.devices c.loop-volume.volume

@@ -32,8 +32,8 @@ returns-in-Err-clause-ending g c =
     ending_trans g.D.Device c.args.world.now c.loop-group.world c.sync.new.self c.args.scenario.now c.loop-group.invariant.0
     (ending_synced g.D.Device c.loop-group.world c.sync.new.self c.args.scenario.now c.loop-group.group c.in-Err.ensures.synced)
 
-pub returns-in-Err-clause-rose : goal.returns-in-Err-clause-rose
-returns-in-Err-clause-rose g c = λ e. any_earlier _ _ _ c.loop-group.invariant.0.later (rose_at _ _ _ (c.in-Err.ensures.cause refl))
+pub returns-in-Err-clause-counts : goal.returns-in-Err-clause-counts
+returns-in-Err-clause-counts g c = any_earlier _ _ _ c.loop-group.invariant.0.later (rose_at _ _ _ (c.in-Err.ensures.cause refl))
 
 pub returns-clause-areas : goal.returns-clause-areas
 returns-clause-areas g c = all_hold g.D.Device.told c.args.scenario.now c.args.trail.now.moves c.loop-group.world.devices c.loop-group.group

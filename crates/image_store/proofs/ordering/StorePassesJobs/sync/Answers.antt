@@ -1,6 +1,6 @@
 use Rattle.image_store.specs.Aims.{aims_of}
 use Rattle.image_store.specs.Ordering.{without}
-use Rattle.image_store.proofs.Orders.{may_more, opens_still, so_far_still, synced_covers, synced_holds}
+use Rattle.image_store.proofs.Orders.{brought_still, may_more, opens_still, so_far_still, synced_covers, synced_holds}
 use Rattle.image_store.proofs.Stores.{synced}
 use Rattle.image_store.proofs.ordering.StorePassesJobs.sync.Goals as goal
 
@@ -16,6 +16,10 @@ returns-in-Ok-clause-stands g c = λ first stands.
       λ p is. may_more g.D.Device.told (aims_of g.I.Device.told c.args._jobs.now.jobs.items) c.args.self.now c.sync.new.self p c.sync.ensures.still
           (stands.1 p is),
     )
+
+pub returns-in-Ok-clause-brought : goal.returns-in-Ok-clause-brought
+returns-in-Ok-clause-brought g c = λ asked first was p is. brought_still g.D.Device.told (aims_of g.I.Device.told asked.jobs.items) c.args.self.now
+    c.sync.new.self p c.sync.ensures.still (was p is)
 
 pub returns-in-Ok-clause-before : goal.returns-in-Ok-clause-before
 returns-in-Ok-clause-before g c = λ first before p is. let has = before p is
@@ -33,6 +37,10 @@ returns-in-Err-clause-stands g c = λ first stands.
       λ p is. may_more g.D.Device.told (aims_of g.I.Device.told c.args._jobs.now.jobs.items) c.args.self.now c.sync.new.self p c.sync.ensures.still
           (stands.1 p is),
     )
+
+pub returns-in-Err-clause-brought : goal.returns-in-Err-clause-brought
+returns-in-Err-clause-brought g c = λ asked first was p is. brought_still g.D.Device.told (aims_of g.I.Device.told asked.jobs.items) c.args.self.now
+    c.sync.new.self p c.sync.ensures.still (was p is)
 
 pub returns-in-Err-clause-before : goal.returns-in-Err-clause-before
 returns-in-Err-clause-before g c = λ first before p is. let has = before p is

@@ -1,6 +1,7 @@
 use Rattle.std.proofs.Common.{◌≤◌, None, List, subst, refl, arith, length, rules, vec_capacity, eqb}
 use Rattle.std.specs.Prelude.{slice_set, not}
 use Rattle.std.proofs.lemmas.Fn.{filter_same}
+use Rattle.std.proofs.lemmas.Grind.{common_steps}
 use Rattle.mirror_volume.specs.declared.mirror.Mirror.{Mirror}
 use Rattle.mirror_volume.specs.MirrorCalls.{NoneHolds}
 use Rattle.mirror_volume.proofs.Standing.{dropped_stands}
@@ -16,8 +17,7 @@ returns-in_default-clause-dropped g c =
 pub index_mut-mirror-requires : goal.index_mut-mirror-requires
 index_mut-mirror-requires g c =
     let low = within_holder c.deref.result.now c.self.inside.mirrors.items c.deref.ensures.value c.args.set c.in-Some.place c.in-Some.ensures.found in
-    let long = c.self.inside.mirrors.ok in
-    omega arith
+    let long = c.self.inside.mirrors.ok in grind (arith, common_steps)
 
 pub invariant_of-self : goal.invariant_of-self
 invariant_of-self g c =

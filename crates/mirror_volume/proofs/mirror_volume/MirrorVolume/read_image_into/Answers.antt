@@ -1,4 +1,5 @@
 use Rattle.std.proofs.Common.{◌<◌, ◌≤◌, List, subst, refl, arith, length}
+use Rattle.std.proofs.lemmas.Grind.{common_steps}
 use Rattle.mirror_volume.specs.declared.mirror.Mirror.{Mirror}
 use Rattle.mirror_volume.specs.MirrorCalls.{NoneHolds, IsHolder}
 use Rattle.mirror_volume.proofs.Keeping.{holder_at, within_holder, among_held, not_among, image_read, image_read_stands, keeps_read}
@@ -13,16 +14,13 @@ returns-in_default-clause-read g c =
 pub index_mut-mirror-requires : goal.index_mut-mirror-requires
 index_mut-mirror-requires g c =
     let low = within_holder c.deref.result.now c.self.inside.mirrors.items c.deref.ensures.value c.args.set c.in-Some.place c.in-Some.ensures.found in
-    let long = c.self.inside.mirrors.ok in
-    omega arith
+    let long = c.self.inside.mirrors.ok in grind (arith, common_steps)
 
 pub read_mirror-requires-clause-in_range : goal.read_mirror-requires-clause-in_range
 read_mirror-requires-clause-in_range g c =
     let at = holder_at c.deref.result.now c.self.inside.mirrors.items c.deref.ensures.value c.args.set c.in-Some.place c.in-Some.ensures.found c.index_mut-mirror.result.now
     c.index_mut-mirror.ensures.value in
     let same = c.self.invariant.are_mirrors.sizes c.in-Some.place c.index_mut-mirror.result.now at.was in
-    let blocks = c.blocks-2.ensures.size in
-    let low = c.if-block-blocks.false in
     omega arith
 
 pub invariant_of-self : goal.invariant_of-self

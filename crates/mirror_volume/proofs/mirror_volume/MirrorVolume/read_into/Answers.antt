@@ -1,11 +1,9 @@
-use Rattle.mirror_volume.proofs.Keeping.{value_of, quiet_parts}
+use Rattle.mirror_volume.proofs.Keeping.{quiet_parts}
 use Rattle.mirror_volume.proofs.Standing.{quiet_stands}
 use Rattle.mirror_volume.proofs.mirror_volume.MirrorVolume.read_into.Goals as goal
+use Rattle.std.proofs.Common.{arith}
+use Rattle.std.proofs.lemmas.Grind.{common_steps}
 
 pub returns-clause-stands : goal.returns-clause-stands
 returns-clause-stands g c =
-    let quiet = quiet_parts g.D.Device c.self.inside.primary c.read_into.new.self c.self.inside.mirrors.items c.self.inside.images.items c.read_into.ensures.told c.read_into.ensures.size
-    c.read_into.ensures.cause.later in
-    rw (← c.self.view_is)
-    (λ h stood. quiet_stands g.D.Device (value_of c.self.inside.primary c.self.inside.mirrors.items c.self.inside.images.items)
-    (value_of c.read_into.new.self c.self.inside.mirrors.items c.self.inside.images.items) h quiet stood)
+    grind (arith, common_steps, quiet_parts, quiet_stands, c.read_into.ensures.told, c.read_into.ensures.size, c.read_into.ensures.cause.later, c.self.view_is)

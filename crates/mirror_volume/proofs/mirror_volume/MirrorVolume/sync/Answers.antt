@@ -1,5 +1,6 @@
-use Rattle.std.proofs.Common.{List, ap, subst, refl, arith, length}
+use Rattle.std.proofs.Common.{List, subst, refl, arith}
 use Rattle.std.proofs.lemmas.Result.{err_from_is_err_and}
+use Rattle.std.proofs.lemmas.Grind.{common_steps}
 use Rattle.mirror_volume.specs.declared.mirror.Mirror.{Mirror}
 use Rattle.mirror_volume.specs.MirrorCalls.{AreCalled}
 use Rattle.mirror_volume.proofs.Flushing.{none_called, keeps_called, called_stands, cause_first}
@@ -26,19 +27,11 @@ returns-in_err-flush-clause-flushed g c =
 
 pub returns-in_err-flush-clause-stands : goal.returns-in_err-flush-clause-stands
 returns-in_err-flush-clause-stands g c =
-    let told = c.in_err-flush.ensures.told in
-    let size = c.in_err-flush.ensures.size in
-    let later = c.in_err-flush.ensures.cause.later in
-    rw (← c.self.view_is) (λ h stood. quiet_stands g.D.Device
-    (value_of c.self.inside.primary c.self.inside.mirrors.items c.self.inside.images.items)
-    (value_of c.flush.new.self c.self.inside.mirrors.items c.self.inside.images.items) h
-    (quiet_parts g.D.Device c.self.inside.primary c.flush.new.self c.self.inside.mirrors.items c.self.inside.images.items told size later) stood)
+    let told = c.in_err-flush.ensures.told in let size = c.in_err-flush.ensures.size in let later = c.in_err-flush.ensures.cause.later in
+    grind (arith, common_steps, quiet_stands, quiet_parts, c.self.view_is)
 
 pub invariant_of-self-2 : goal.invariant_of-self-2
 invariant_of-self-2 g c =
-    let long = c.flush_all.ensures.called.long in
-    let as_items = ap length c.deref_mut.ensures.value in
-    let ok = c.self.inside.mirrors.ok in
     let all = all_over c.self.inside.mirrors.len c.flush_all.new.mirrors c.self.inside.mirrors.items (omega arith) in
     let are = subst (λ (ms : List (Mirror _)). AreCalled g.D.Device ms c.flush_all.new.mirrors) c.deref_mut.ensures.value c.flush_all.ensures.called in
     rw all (keeps_called g.D.Device c.self.inside.primary c.flush.new.self c.self.inside.mirrors.items c.flush_all.new.mirrors c.self.inside.images
@@ -46,9 +39,6 @@ invariant_of-self-2 g c =
 
 pub returns-clause-stands : goal.returns-clause-stands
 returns-clause-stands g c =
-    let long = c.flush_all.ensures.called.long in
-    let as_items = ap length c.deref_mut.ensures.value in
-    let ok = c.self.inside.mirrors.ok in
     let all = all_over c.self.inside.mirrors.len c.flush_all.new.mirrors c.self.inside.mirrors.items (omega arith) in
     let are = subst (λ (ms : List (Mirror _)). AreCalled g.D.Device ms c.flush_all.new.mirrors) c.deref_mut.ensures.value c.flush_all.ensures.called in
     let told = c.in_ok-flush.ensures.told in

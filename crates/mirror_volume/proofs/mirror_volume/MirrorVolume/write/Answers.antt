@@ -1,4 +1,4 @@
-use Rattle.std.proofs.Common.{◌≡◌, ◌<◌, ◌∙◌, List, ℕ, true, false, ap, subst, refl, arith, length}
+use Rattle.std.proofs.Common.{◌≡◌, ◌<◌, ◌∙◌, List, ℕ, true, false, subst, refl, arith}
 use Rattle.std.specs.Prelude.{is_err}
 use Rattle.block_data.specs.PayloadBytes.{payload_bytes}
 use Rattle.mirror_volume.specs.declared.mirror.Mirror.{Mirror}
@@ -19,9 +19,6 @@ returns-then-is_err-clause-stands g c =
 
 pub invariant_of-self-2 : goal.invariant_of-self-2
 invariant_of-self-2 g c =
-    let long = c.follow_all.ensures.long in
-    let as_items = ap length c.deref_mut.ensures.value in
-    let ok = c.self.inside.mirrors.ok in
     let all = all_over c.self.inside.mirrors.len c.follow_all.new.mirrors c.self.inside.mirrors.items (omega arith) in
     let are = subst (λ (ms : List (Mirror _)). AreFollowed g.D.Device c.args.block c.bytes.result.now ms c.follow_all.new.mirrors) c.deref_mut.ensures.value c.follow_all.ensures in
     rw all (keeps_written g.D.Device c.args.block c.bytes.result.now c.self.inside.primary c.put_block.new.device c.self.inside.mirrors.items c.follow_all.new.mirrors c.self.inside.images
@@ -29,9 +26,6 @@ invariant_of-self-2 g c =
 
 pub returns-clause-stands : goal.returns-clause-stands
 returns-clause-stands g c =
-    let long = c.follow_all.ensures.long in
-    let as_items = ap length c.deref_mut.ensures.value in
-    let ok = c.self.inside.mirrors.ok in
     let all = all_over c.self.inside.mirrors.len c.follow_all.new.mirrors c.self.inside.mirrors.items (omega arith) in
     let are = subst (λ (ms : List (Mirror _)). AreFollowed g.D.Device c.args.block c.bytes.result.now ms c.follow_all.new.mirrors) c.deref_mut.ensures.value c.follow_all.ensures in
     let bytes : c.bytes.result.now ≡ payload_bytes c.args.payload.now = c.bytes.ensures.bytes ∙ c.put_block.ensures.scratch in

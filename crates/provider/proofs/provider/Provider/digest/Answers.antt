@@ -1,7 +1,7 @@
-use Rattle.std.proofs.Common.{arith, refl, None}
+use Rattle.std.proofs.Common.{arith, refl}
 use Rattle.std.proofs.lemmas.Result.{IfOk-weaker}
 use Rattle.provider.proofs.Found.{digest_shown, found_by, group_low, inside}
-use Rattle.provider.proofs.Called.{called, cause_of, quiet_of}
+use Rattle.provider.proofs.Called.{called, image_cause_of, quiet_of}
 use Rattle.provider.proofs.provider.Provider.digest.Goals as goal
 use Rattle.provider.proofs.Kept.{provider_kept}
 
@@ -20,9 +20,9 @@ pub returns : goal.returns
 returns g c =
     let now = called (found_by c.self.view_is c.requires.has c.place-place.ensures c.index_mut-group.ensures.value) c.digest_of.new.group in
     rw (← c.self.view_is) (record {
-      digest = IfOk-weaker c.digest_of.result _ _ (digest_shown g.D.Device.told now.found None) c.digest_of.ensures.digest.digest;
+      digest = IfOk-weaker c.digest_of.result _ _ (digest_shown g.D.Device.told now.found c.args.set) c.digest_of.ensures.digest.digest;
       wide = c.digest_of.ensures.wide;
       quiet = quiet_of g.D.Device now c.digest_of.ensures.digest.quiet;
-      cause = cause_of g.D.Device.count now c.digest_of.result c.digest_of.ensures.digest.same c.digest_of.ensures.digest.rose;
+      cause = image_cause_of g.D.Device now c.args.set c.digest_of.result c.digest_of.ensures.digest.there c.digest_of.ensures.digest.same c.digest_of.ensures.digest.cause;
       set = refl;
     })

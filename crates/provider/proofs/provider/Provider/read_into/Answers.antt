@@ -1,8 +1,8 @@
-use Rattle.std.proofs.Common.{◌≡◌, arith, refl, None}
+use Rattle.std.proofs.Common.{◌≡◌, arith, refl}
 use Rattle.std.proofs.lemmas.Result.{IfErr-weaker}
 use Rattle.write_history.specs.History.{content}
-use Rattle.provider.proofs.Found.{at_end, below, found_by, group_low, inside, on_ok, shown_of}
-use Rattle.provider.proofs.Called.{by_device, called, cause_of, quiet_of}
+use Rattle.provider.proofs.Found.{at_seen, below, found_by, group_low, inside, on_ok, shown_of}
+use Rattle.provider.proofs.Called.{by_fault, called, image_cause_of, quiet_of}
 use Rattle.provider.proofs.provider.Provider.read_into.Goals as goal
 use Rattle.provider.proofs.Kept.{provider_kept}
 
@@ -21,10 +21,11 @@ pub returns : goal.returns
 returns g c =
     let now = called (found_by c.self.view_is c.requires.has c.place-place.ensures c.index_mut.ensures.value) c.read_into.new.self in
     rw (← c.self.view_is) (record {
-      now = on_ok _ _ c.read_into.result (λ is. shown_of g.D.Device.told now.found None (λ ws p. c.read_into.new.out ≡ content ws p c.args.block)
-          (at_end g.D.Device.told now.found.here now.found.within c.args.block c.read_into.new.out is)) c.read_into.ensures.now;
+      shown = on_ok _ _ c.read_into.result (λ is. shown_of g.D.Device.told now.found c.args.set (λ ws p. c.read_into.new.out ≡ content ws p c.args.block)
+          (at_seen g.D.Device.told now.found.here now.found.within c.args.set c.args.block c.read_into.new.out is)) c.read_into.ensures.seen;
       quiet = quiet_of g.D.Device now c.read_into.ensures.quiet;
-      cause = cause_of g.D.Device.count now c.read_into.result c.read_into.ensures.same
-          (IfErr-weaker c.read_into.result _ _ (by_device g.D.Device.count _ c.args.block now.found.here now.after (below now.found c.args.block c.requires.block.1)) c.read_into.ensures.cause);
+      cause = image_cause_of g.D.Device now c.args.set c.read_into.result c.read_into.ensures.there c.read_into.ensures.same
+          (IfErr-weaker c.read_into.result _ _ (by_fault g.D.Device.count _ c.args.set c.args.block now.found.here now.after (below now.found c.args.block c.requires.block.1))
+          c.read_into.ensures.cause);
       set = refl;
     })

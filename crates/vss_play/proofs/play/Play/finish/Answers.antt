@@ -1,4 +1,3 @@
-use Rattle.std.proofs.Common.{ap, Err}
 use Rattle.vss_play.proofs.Areas.{stands_by}
 use Rattle.vss_play.proofs.Ended.{ended_as, reported, unreported}
 use Rattle.vss_play.proofs.play.Play.finish.Goals as goal
@@ -20,7 +19,7 @@ returns-clause-ended g c =
     c.self.inside.lines.bytes c.args.self c.into_devices-2.result.items _ _ _ _ _ _ c.self.view_is c.self.invariant.play c.in-Ok.ensures.ending
     c.into_devices-2.ensures c.give_all-2.ensures.kept c.give_all-2.ensures.count
     (reported g.D.Device c.self.inside.scenario c.self.inside.world c.close_all.new.world c.self.inside.cursors.items c.self.inside.trail.moves
-    c.self.inside.lines.bytes c.close_all.new.out c.self.invariant.play c.in-Ok.ensures.ending c.in-Ok.ensures.closed c.in-Ok.ensures.areas c.in-Ok.ensures.same
+    c.self.inside.lines.bytes c.close_all.new.out c.self.invariant.play c.in-Ok.ensures.ending c.in-Ok.ensures.closed c.in-Ok.ensures.areas c.in-Ok.ensures.counts
     c.in-Ok.ensures.left)
 
 pub returns-in-Err-clause-ended : goal.returns-in-Err-clause-ended
@@ -29,4 +28,4 @@ returns-in-Err-clause-ended g c =
     c.self.inside.lines.bytes c.args.self c.into_devices.result.items _ _ _ _ _ _ c.self.view_is c.self.invariant.play c.in-Err.ensures.ending
     c.into_devices.ensures c.give_all.ensures.kept c.give_all.ensures.count
     (unreported g.D.Device c.self.inside.scenario c.self.inside.trail.moves c.self.inside.world.devices c.close_all.new.world.devices c.self.inside.lines.bytes
-    c.in-Err.fault (λ e. c.in-Err.ensures.wanting (ap Err e)) (λ e. c.in-Err.ensures.rose (ap Err e)))
+    c.in-Err.fault c.in-Err.ensures.counts)

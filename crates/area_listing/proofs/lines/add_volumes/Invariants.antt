@@ -1,7 +1,0 @@
--- The lines of the volumes so far.
-use Rattle.std.proofs.Common.{◌≡◌, ◌++◌}
-use Rattle.area_listing.specs.Listing.{volume_lines}
-use Rattle.area_listing.proofs.lines.add_volumes.Given as goal
-
-abbrev pub invariant-loop-volume : goal.invariant-loop-volume
-invariant-loop-volume l = l.out.bytes ≡ l.initial.out.bytes ++ volume_lines l.view l.volume

@@ -1,8 +1,0 @@
-use Rattle.cow_volume.specs.Parts.{group_of}
-use Rattle.cow_volume.proofs.Kept.{sizes_kept}
-use Rattle.cow_volume.proofs.cow_group.CowGroup.read_image_into.Goals as goal
-
-pub invariant_of-self : goal.invariant_of-self
-invariant_of-self g c =
-    sizes_kept g.D.Device (group_of c.self.inside.devices.items c.self.inside.copies)
-    (group_of c.read_shown.new.devices.items c.read_shown.new.copies) c.read_shown.ensures.quiet.kept c.self.invariant

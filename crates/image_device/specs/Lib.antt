@@ -1,0 +1,3 @@
+pub mod BlockSum
+pub mod KeptSums
+pub mod StoreDevice

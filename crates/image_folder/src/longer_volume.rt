@@ -1,0 +1,194 @@
+//! `grow`: a volume gets more blocks. The length of its file is in its last block, and so are those of its images: each image that has a copy of
+//! the block that was the last gets one of the new last block.
+
+use crate::creating::check_blocks;
+use crate::ended::say;
+use crate::folder::{AREA, Folder};
+use crate::longer::{Longer, tail_of};
+use crate::opened::Opened;
+use crate::program::Program;
+use crate::shape::{Shape, check_in_all};
+use crate::state::{Row, blocks_in, first_of};
+use crate::status::Status;
+use crate::sum_fault::say_other;
+use block_data::BlockBuf;
+use image_device::{BlockSum, SumTable};
+use image_order::mark;
+use std::sync::Arc;
+use volume_device::Device;
+
+/// A volume that gets more blocks.
+#[derive(Clone, Copy)]
+struct Growth<'a> {
+    volume: u32,
+    name: &'a str,
+    /// How many blocks the volumes before it have.
+    first: usize,
+    /// The block that was the last, and the new last one.
+    was: u32,
+    last: u32,
+}
+
+/// The new last block of an image: the slot that has it, and its last eight bytes.
+#[derive(Clone, Copy)]
+struct Tail {
+    slot: u32,
+    tail: u64,
+}
+
+impl Shape {
+    /// What the block ends with that was the last of a volume: the length of its file.
+    fn tail_of_volume(&mut self, program: &Program, growth: Growth<'_>) -> Result<u64, Status> {
+        let (volume, last) = (growth.volume, growth.was);
+        let place = growth.first.saturating_add(last as usize);
+        let mut block = BlockBuf::zeroed(program.alloc())?;
+        let Some(device) = self.devices.get_mut(volume as usize) else {
+            return Err(Status::DeviceFault);
+        };
+        let is_read = last < device.blocks() && device.read_into(last, block.bytes_mut()).is_ok();
+        if !is_read {
+            return Err(Status::DeviceFault);
+        }
+        match self.sums.get(place) {
+            Some(sum) if sum == BlockSum::of(block.bytes()) => Ok(tail_of(block.bytes())),
+            _ => Err(say_other(program, device, last, &[])),
+        }
+    }
+
+    /// Gives a free slot this row.
+    fn take_slot(&mut self, folder: &Folder, name: &str, row: Row) -> Result<u32, Status> {
+        for slot in 0..self.slots {
+            if !self.is_used(slot) {
+                if let Some(free) = self.rows.get_mut(slot as usize) {
+                    *free = row;
+                }
+                return Ok(slot);
+            }
+        }
+        let path = folder.path.as_str();
+        Err(
+            ended!(folder.program, Refused; "{path}: slots: too few are free for the images of {name}; ./images grow {path} SLOTS makes more"),
+        )
+    }
+
+    /// The new last blocks of the images of a volume: of each that has a copy of the block that was the last.
+    fn new_tails(&mut self, folder: &Folder, growth: Growth<'_>) -> Result<Vec<Tail>, Status> {
+        let alloc = folder.program.alloc();
+        let (mut tails, mut block) = (Vec::new(alloc), BlockBuf::zeroed(alloc)?);
+        for slot in 0..self.slots {
+            match self.rows.get(slot as usize).copied() {
+                Some(row) if row.set != 0 && growth.is_of(row) => {
+                    self.read_slot(slot, &mut block)?;
+                    let row = Row {
+                        block: growth.last,
+                        ..row
+                    };
+                    tails.push(Tail {
+                        slot: self.take_slot(folder, growth.name, row)?,
+                        tail: tail_of(block.bytes()),
+                    })?;
+                }
+                _ => {}
+            }
+        }
+        Ok(tails)
+    }
+}
+
+impl<'a> Growth<'a> {
+    /// That of a volume which gets so many blocks, if it may get them.
+    fn of(
+        program: &Program,
+        shape: &Shape,
+        volume: u32,
+        name: &'a str,
+        blocks: u32,
+    ) -> Result<Growth<'a>, Status> {
+        let catalog = shape.head.catalog();
+        if volume >= catalog.volumes() {
+            return Err(Status::DeviceFault);
+        }
+        let had = catalog.blocks(volume);
+        check_blocks(program, name, blocks)?;
+        if blocks <= had {
+            return Err(
+                ended!(*program, Refused; "{name}: blocks: {blocks}, and it has {had} already; a volume only grows"),
+            );
+        }
+        check_in_all(program, catalog, blocks - had)?;
+        Ok(Growth {
+            volume,
+            name,
+            first: first_of(catalog, volume),
+            was: had.saturating_sub(1),
+            last: blocks.saturating_sub(1),
+        })
+    }
+
+    /// Whether a row is of the block that was the last.
+    fn is_of(self, row: Row) -> bool {
+        row.volume == self.volume && row.block == self.was
+    }
+
+    /// How many blocks the volume has then.
+    fn blocks(self) -> u32 {
+        self.last.saturating_add(1)
+    }
+
+    /// Gives the volume its new last block, with its length, and each image its own.
+    fn write(
+        self,
+        folder: &Folder,
+        shape: &Shape,
+        sums: &SumTable,
+        tail: u64,
+        tails: &[Tail],
+    ) -> Result<(), Status> {
+        let (program, last) = (&folder.program, self.last);
+        let file = Longer::grown(program, folder.path_of_volume(self.name)?, self.blocks())?;
+        file.put_tail(last, tail, sums, self.first.saturating_add(last as usize))?;
+        file.sync()?;
+        let all = blocks_in(shape.head.catalog());
+        let size = shape.front.saturating_add(shape.slots);
+        let area = Longer::grown(program, folder.path_of(AREA)?, size)?;
+        for one in tails {
+            let (index, place) = (shape.front.saturating_add(one.slot), one.slot as usize);
+            area.put_tail(index, one.tail, sums, all.saturating_add(place))?;
+        }
+        area.sync()
+    }
+}
+
+/// Gives a volume more blocks.
+fn more_blocks(folder: &mut Folder, shape: &mut Shape, growth: Growth<'_>) -> Result<(), Status> {
+    let program = folder.program;
+    let tail = shape.tail_of_volume(&program, growth)?;
+    let tails = shape.new_tails(folder, growth)?;
+    let behind = growth
+        .first
+        .saturating_add(growth.was as usize)
+        .saturating_add(1);
+    let more = growth.last.saturating_sub(growth.was) as usize;
+    let sums = Arc::new(program.alloc(), shape.parted_sums(&program, behind, more)?)?;
+    let (volume, blocks) = (growth.volume, growth.blocks());
+    check_blocks(&program, growth.name, blocks)?;
+    if volume >= shape.head.catalog().volumes() {
+        return Err(Status::DeviceFault);
+    }
+    shape.head.resize(volume, blocks);
+    mark(folder, "grow\n")?;
+    growth.write(folder, shape, &sums, tail, &tails)?;
+    shape.commit(folder, sums)
+}
+
+/// `grow F NAME=BLOCKS`: a volume gets so many blocks.
+pub fn grow_volume(opened: Opened, name: &str, blocks: u32) -> Result<(), Status> {
+    let (program, volume) = (opened.folder.program, opened.place_of(name)?);
+    let (mut folder, mut shape) = Shape::of(opened)?;
+    let done = match Growth::of(&program, &shape, volume, name, blocks) {
+        Ok(growth) => more_blocks(&mut folder, &mut shape, growth),
+        Err(status) => Err(status),
+    };
+    shape.end(&program, done)?;
+    say(&program, format_args!("volume {name} blocks {blocks}\n"))
+}
