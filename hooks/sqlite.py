@@ -1,23 +1,29 @@
 #!/usr/bin/env python3
 """The hook of a SQLite database: sqlite.py DATABASE [SECONDS]; or a job for it: sqlite.py --job DATABASE
 
-While it is frozen nobody can commit. It holds the write lock, by BEGIN IMMEDIATE, and has waited until every frame of the log was in the
-database. So no checkpoint of another connection has anything left to write, and the database, its log and what lies beside it stand still. It
-says ok to `thaw` only if it held the lock to then. It waits at most SECONDS for the lock, 30 without the word.
+While it is frozen nobody can commit: it holds the write lock, by BEGIN IMMEDIATE. Nobody can bring frames of the log into the database either:
+it holds the lock by which SQLite lets one connection at a time do so. Before, it has brought in those that no reader still keeps in the log. So
+the database and its log stand still, and belong together. It says ok to `thaw` only if it held the lock to then. It waits at most SECONDS for
+the write lock, 30 without the word.
 
 With --job it writes a job that backs up the database and its log as the volumes `db` and `log`.
 """
+import fcntl
 import os
 import pathlib
 import shlex
 import sqlite3
+import struct
 import sys
 import time
 
 from hook import Refused, serve
 
-# How long a freeze waits for other checkpoints, in seconds.
+# How long a freeze waits for a checkpoint of another connection, in seconds.
 CHECKPOINT = 1
+
+# The byte of DATABASE-shm by whose lock SQLite keeps checkpoints apart ("WAL-mode File Format", 2.3.1).
+CHECKPOINTER = 121
 
 # What is backed up of one database: its metadata document.
 DOCUMENT = ('{"class":"11111111-1111-4111-8111-111111111111","components":[{"name":"main","selectable":true,"type":1}],"level":2,"name":"SQLite",'
@@ -30,32 +36,46 @@ def job_of(path):
     return f"job 1\nvolume db {path}\nvolume log {path}-wal or-none\nwriter app {DOCUMENT}\nfiles app main db log\nhook app {hook}\n"
 
 
+def lock_checkpoints(index, kind):
+    """Takes or gives back the lock of checkpoints. It is one of the open file, so it stands against SQLite in this process, too."""
+    fcntl.fcntl(index, fcntl.F_OFD_SETLK, struct.pack("hhqqi4x", kind, os.SEEK_SET, CHECKPOINTER, 1, 0))
+
+
 class Database:
     def __init__(self, path, seconds):
-        self.name, self.path, self.seconds, self.lock = f"hook of {path}", path, seconds, None
+        self.name, self.path, self.seconds, self.lock, self.index = f"hook of {path}", path, seconds, None, None
 
     def connect(self):
         # (a URI, so that no database is made; in a name `?`, `#` and `%` would mean something else there)
         where = pathlib.Path(self.path).absolute().as_uri()
         return sqlite3.connect(f"{where}?mode=rw", uri=True, isolation_level=None, timeout=self.seconds)
 
-    def checkpoint(self, until):
-        """Brings frames of the log into the database, until none is left or the time is over."""
+    def checkpoint(self):
+        """Brings the frames of the log into the database that no reader keeps in the log."""
         connection = self.connect()
         try:
-            while True:
-                busy, frames, done = connection.execute("PRAGMA wal_checkpoint(PASSIVE)").fetchone()
-                if not busy and frames == done:
-                    return True
-                if time.monotonic() > until:
-                    return False
-                time.sleep(0.002)
+            connection.execute("PRAGMA wal_checkpoint(PASSIVE)")
         finally:
             connection.close()
 
+    def hold_checkpoints(self):
+        """Keeps all checkpoints away, if there is a log; waits for one that goes on."""
+        until = time.monotonic() + CHECKPOINT
+        try:
+            self.index = os.open(f"{os.path.realpath(self.path)}-shm", os.O_RDWR)
+        except FileNotFoundError:
+            return
+        while True:
+            try:
+                return lock_checkpoints(self.index, fcntl.F_WRLCK)
+            except BlockingIOError as error:
+                if time.monotonic() > until:
+                    raise Refused("a checkpoint of another connection goes on; call again") from error
+                time.sleep(0.002)
+
     def prepare_snapshot(self):
         try:
-            self.checkpoint(time.monotonic())
+            self.checkpoint()
         except sqlite3.Error as error:
             raise Refused(error) from error
 
@@ -63,19 +83,18 @@ class Database:
         try:
             self.lock = self.connect()
             self.lock.execute("BEGIN IMMEDIATE")
-            is_still = self.checkpoint(time.monotonic() + CHECKPOINT)
-        except sqlite3.Error as error:
+            self.checkpoint()
+            self.hold_checkpoints()
+        except (sqlite3.Error, OSError) as error:
             raise Refused(error) from error
-        if not is_still:
-            raise Refused("another checkpoint goes on")
 
     def thaw(self):
         if not self.let_go():
             raise Refused("the lock was not held")
 
     def let_go(self):
-        """Gives the lock back; whether it was held to now."""
-        lock, self.lock = self.lock, None
+        """Gives the locks back; whether the write lock was held to now."""
+        lock, index, self.lock, self.index = self.lock, self.index, None, None
         if lock is None:
             return False
         try:
@@ -86,7 +105,16 @@ class Database:
         except sqlite3.Error:
             return False
         finally:
-            lock.close()
+            self.close(lock, index)
+
+    @staticmethod
+    def close(lock, index):
+        """Closes the connection first: a process that closes a file loses its own locks of it, and SQLite's are such."""
+        if index is not None:
+            lock_checkpoints(index, fcntl.F_UNLCK)
+        lock.close()
+        if index is not None:
+            os.close(index)
 
 
 def seconds_in(word):

@@ -7,12 +7,14 @@ judged. With `all` also the rows that take long.
 import os
 import random
 import signal
+import sqlite3
 import subprocess
 import sys
+import threading
 import time
 
 from common import write
-from room import HERE, HOOKS, LIMIT, Room, Wrong, document, judged
+from room import BLOCKS, HERE, HOOKS, LIMIT, Room, Wrong, document, judged
 
 # The orders before a set is kept, and those behind.
 BEFORE = ("identify", "prepare_backup", "prepare_snapshot", "freeze", "thaw")
@@ -88,6 +90,39 @@ def no_holds(room, is_all):
     nothing = f"{sys.executable} {HOOKS}/commands.py --freeze true --thaw true"
     expect("hooks that hold nothing", room.run(room.job({"app": nothing, "stock": nothing})), NOTHING, "changed while it was read")
     next_one(room, "hooks that hold nothing")
+
+
+def read_and_checkpoint(path, is_over, seconds):
+    """Reads the database until it is over, each time by a view that gets so old, and brings frames of the log into it."""
+    reader, other = (sqlite3.connect(path, isolation_level=None, timeout=20) for _connection in range(2))
+    while not is_over.is_set():
+        reader.execute("BEGIN")
+        reader.execute("SELECT n FROM counter").fetchone()
+        until = time.monotonic() + seconds
+        while not is_over.wait(0.001) and time.monotonic() < until:
+            other.execute("PRAGMA wal_checkpoint(PASSIVE)")
+        reader.execute("ROLLBACK")
+    other.close()
+    reader.close()
+
+
+def readers(room, is_all):
+    """Readers keep frames in the log, and other connections bring them into the database as soon as they may: what is frozen stands still. The view of
+    the first reader lasts to the end of the backup."""
+    room.create("long", 20000, {**BLOCKS, "appwal": 3000})
+    for seconds in (1000, *(0.05, 0.2) * (5 if is_all else 1)):
+        process, is_over = room.start(room.job(), folder="long"), threading.Event()
+        room.wait_for("prepare_backup ok", lambda: "prepare_backup ok" in room.said(process))
+        reader = threading.Thread(target=read_and_checkpoint, args=(f"{room.path}/live/app.db", is_over, seconds))
+        reader.start()
+        try:
+            expect(f"a reader's view of {seconds} s", (process.wait(timeout=120), room.said(process)), KEPT, "kept")
+        finally:
+            is_over.set()
+            reader.join()
+        room.judge(room.sets("long")[-1], "long")
+    sqlite3.connect(f"{room.path}/live/app.db", timeout=20).execute("PRAGMA wal_checkpoint(TRUNCATE)")
+    next_one(room, "readers")
 
 
 # where to strike: a line that is said, and whether a set is kept; up to the thaw one of the hooks takes long for its own
@@ -215,7 +250,7 @@ def no_record(room, is_all):
         raise Wrong("a record that cannot be written: the folder was left open")
 
 
-ROWS = (wrong_answers, slow_answers, no_holds, strikes, kills, full_area, outgrown, no_room, full_disk, no_record)
+ROWS = (wrong_answers, slow_answers, no_holds, readers, strikes, kills, full_area, outgrown, no_room, full_disk, no_record)
 
 
 def main(words):
