@@ -101,6 +101,25 @@ def growth(program):
     return tried
 
 
+def in_transit(program):
+    """Images are listed beside a volume in transit, and it is named."""
+    shutil.copytree("F", "E")
+    write("E/images.open", b"update\ndb\n")
+    line = b"images: E: left open by update of db; an update of db goes on, and ./images check E says what is whole\n"
+    for words, part in (
+        (["list", "E"], b"volume db blocks 4 in transit\nimage 1 length 49152 used 3\n"), (["list", "--json", "E"], b'"in_transit":true,"length":null'),
+        (["sets", "E"], b"\nset 2 "), (["diff", "E", "1", "2"], b"volume db written 3: 0-2\n"), (["diff", "E", "1", "log"], b"volume log written 0\n"),
+    ):
+        got = ran([program, *words])
+        if got.returncode or part not in got.stdout or got.stderr != line:
+            sys.exit(f"{words} of a folder in transit: {got}")
+    got = ran([program, "delete", "E", "1"])
+    if (got.returncode, got.stdout, got.stderr) != (11, b"", line):
+        sys.exit(f"delete in a folder in transit: {got}")
+    shutil.rmtree("E")
+    return 6
+
+
 def main(program, room):
     os.chdir(room)
     tried = 0
@@ -128,9 +147,9 @@ def main(program, room):
         sys.exit(f"sets: {sets}")
     listed = json.loads(ran([program, "list", "--json", "F"]).stdout)
     if [of.pop("seconds") for of in listed["sets"]] != [int(moment) for moment in moments] or listed != {
-        "volumes": [{"name": "db", "blocks": 4, "length": 3 * B, "images": [
+        "volumes": [{"name": "db", "blocks": 4, "length": 3 * B, "in_transit": False, "images": [
             {"set": 1, "length": 3 * B, "used": 3}, {"set": 2, "length": 3 * B, "used": 0}]},
-            {"name": "log", "blocks": 1, "length": None, "images": [{"set": 1, "length": None, "used": 0}]}],
+            {"name": "log", "blocks": 1, "length": None, "in_transit": False, "images": [{"set": 1, "length": None, "used": 0}]}],
         "sets": [{"set": 1, "note": "", "images": 2, "used": 3, "exclusive": 3, "shared": 0},
             {"set": 2, "note": "nightly, before the upgrade", "images": 1, "used": 0, "exclusive": 0, "shared": 0}],
         "used": 3, "slots": 6, "last": 2}:
@@ -145,6 +164,7 @@ def main(program, room):
     call(0, "volume db written 0\n", "diff", "F", "2")
     call(3, "set 2: there is no image of it on log", "diff", "F", "1", "2", "log")
     call(3, "set 3: there is no image of it", "diff", "F", "1", "3")
+    tried += in_transit(program)
     for note in ("two\nlines", "\x7f", "\u00e9", "n" * 101):
         call(2, "usage: cut [--note TEXT] F NAME ..", "cut", "--note", note, "F", "db")
 
