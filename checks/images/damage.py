@@ -191,8 +191,8 @@ class Damage:
             write(f"F/{name}", data)
         write("F/images.together", b"?")
         got, more = self.run("cut", "F", "db", "wal"), self.run("update", "F", "db=db")
-        if got.returncode or got.stderr.count(b"\n") != 2 or b"not brought to their files by one update" not in got.stderr or more.returncode \
-                or read("F/images.together")[72:] != b"db\n" or self.run("check", "F").returncode:
+        if got.returncode or got.stderr.count(b"\n") != 2 or b"not known to be of one moment" not in got.stderr or more.returncode \
+                or not read("F/images.together")[72:].startswith(b"db\n=db ") or self.run("check", "F").returncode:
             sys.exit(f"cut beside a damaged list: {got} {more}")
         self.whole = {name.partition("/")[2]: data for name, data in files_below("F").items()}
 

@@ -273,8 +273,14 @@ impl Opened {
     pub fn note_date(&mut self, set: u32, note: &str) -> Result<(), Status>
         ensures { self.new.store ≡ self.old.store }
     {
-        let standing = sets_of(&self.store, self.folder.program.alloc())?;
-        self.folder.note_date(&standing, set, note)
+        let alloc = self.folder.program.alloc();
+        let (standing, mut names) = (sets_of(&self.store, alloc)?, Vec::new(alloc));
+        for volume in 0..self.store.volumes() {
+            if self.store.images(volume).contains(&set) {
+                names.push(name_in(&self.store, volume))?;
+            }
+        }
+        self.folder.note_date(&standing, set, note, &names)
     }
 
     /// Ends a call: what it changed lasts and the marker is gone before anything is printed.
