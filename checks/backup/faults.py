@@ -13,13 +13,14 @@ import sys
 import threading
 import time
 
-from common import write
+from common import ran, write
 from room import BLOCKS, HERE, HOOKS, LIMIT, Room, Wrong, document, judged
 
 # The orders before a set is kept, and those behind.
 BEFORE = ("identify", "prepare_backup", "prepare_snapshot", "freeze", "thaw")
 BEHIND = ("post_snapshot", "backup_complete")
 NOTHING, KEPT = 13, 0
+WARNING = b"its files are not known to be of one moment"
 
 
 def expect(name, got, status, line):
@@ -36,6 +37,11 @@ def next_one(room, name):
 
 def faulty(room, order, fault, writer="stock"):
     return {writer: f"{sys.executable} {HERE}/faulty.py {order} {fault} {room.hook(writer)}"}
+
+
+def cut_of(room):
+    """What is said as a set of one volume is cut, which a backup brought near its file."""
+    return ran([room.images, "cut", f"{room.path}/store", "app"], check=True).stderr
 
 
 def line_of(order, fault):
@@ -59,7 +65,11 @@ def wrong_answers(room, is_all):
         next_one(room, f"wrong answers to {order}")
     gone = room.run(room.job(faulty(room, "freeze", "gone")))
     expect("gone behind its ok to freeze", gone, NOTHING, "stock: its hook has ended")
+    if WARNING not in cut_of(room):
+        raise Wrong("behind a backup that kept nothing a cut is silent")
     next_one(room, "a hook that died while it was frozen")
+    if WARNING in cut_of(room):
+        raise Wrong("behind a backup that kept a set a cut warns")
 
 
 def slow_answers(room, is_all):

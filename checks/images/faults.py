@@ -124,11 +124,11 @@ class Faults:
         return got.returncode == 0
 
     def refused(self, folder, row, words, statuses, told, **how):
-        """A call that is refused, with a line that has this in it, and changes nothing."""
+        """A call that is refused, with a line that has this in it, and changes nothing. A list has what there is beside a volume that is lost."""
         before = files_below(folder)
         got = ran([self.program, *words], cwd=folder, **how)
         is_one = got.stderr.count(b"\n") == 1 or words[0] == "check"
-        if got.returncode not in statuses or told not in got.stderr or not is_one or got.stdout:
+        if got.returncode not in statuses or told not in got.stderr or not is_one or got.stdout and words[0] != "list":
             sys.exit(f"{row}: {words}: {got.returncode} {got.stdout[:100]} {got.stderr}, wanted {statuses} {told}")
         if files_below(folder) != before:
             sys.exit(f"{row}: {words}: something was changed")

@@ -164,7 +164,9 @@ class Scene:
             self.wrong(place, f"check: {check.returncode} {check.stdout} {check.stderr}")
         listed = self.run(folder, ["list", "F"])
         if torn:
-            words_of = [["list", "F"], ["cut", "F", "db"], ["delete", "F", "1"]]
+            if listed.returncode or not listed.stderr.startswith(b"images: F: left open by ") or listed.stdout.count(b" in transit\n") != check.stdout.count(b": in transit\n"):
+                self.wrong(place, f"list: {listed.returncode} {listed.stdout} {listed.stderr}")
+            words_of = [["cut", "F", "db"], ["delete", "F", "1"]]
             if len(self.call) == 4 and self.call[0] == "update":
                 words_of += [["update", "F", "db=db"], ["revert", "F", "1", "db"]]
             for words in words_of:

@@ -316,9 +316,9 @@ class Plain:
         for v in volumes:
             v.images.append(Image(store.last, v.data, v.tails))
         out.append(b"set %d\n" % store.last)
-        if any(set(words[1:]) <= line for line in store.together) or len(volumes) == 1:
+        if any(set(words[1:]) <= line for line in store.together):
             return True
-        return f"{folder}: set {store.last} is of volumes that were not brought to their files by one update"
+        return f"{folder}: set {store.last}: its files are not known to be of one moment; they are if one update of all of them comes before the cut"
 
     def update(self, words, out):
         pairs = [pair(w) for w in words[1:]]

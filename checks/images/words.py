@@ -101,6 +101,48 @@ def growth(program):
     return tried
 
 
+def without_lists(program):
+    """Without its lists, as of an earlier program, F gives files the mode of those that they replace, or 0600, and `cut` warns. A list that is damaged is named."""
+    for data in (None, b"?"):
+        shutil.copytree("F", "E")
+        for name in ("E/images.dates", "E/images.together"):
+            os.remove(name)
+            if data:
+                write(name, data)
+        for words, path, mode in ((["E", "1", "db"], "one", 0o600), (["E", "db"], "two", 0o600), (["--over", "E", "1", "db"], "two", 0o666)):
+            if "--over" in words:
+                os.chmod(path, mode)
+            got = ran([program, "restore", *words, path])
+            if got.returncode or got.stderr.count(b"digest: another") != bool(data) or os.stat(path).st_mode & 0o777 != mode:
+                sys.exit(f"restore {words} beside lists of {data}: {got}")
+        os.remove("one")
+        os.remove("two")
+        got = ran([program, "cut", "E", "db"])
+        if (got.returncode, b"not known to be of one moment" in got.stderr) != ((9, False) if data else (0, True)):
+            sys.exit(f"cut beside lists of {data}: {got}")
+        shutil.rmtree("E")
+    return 8
+
+
+def in_transit(program):
+    """Images are listed beside a volume in transit, and it is named."""
+    shutil.copytree("F", "E")
+    write("E/images.open", b"update\ndb\n")
+    line = b"images: E: left open by update of db; an update of db goes on, and ./images check E says what is whole\n"
+    for words, part in (
+        (["list", "E"], b"volume db blocks 4 in transit\nimage 1 length 49152 used 3\n"), (["list", "--json", "E"], b'"in_transit":true,"length":null'),
+        (["sets", "E"], b"\nset 2 "), (["diff", "E", "1", "2"], b"volume db written 3: 0-2\n"), (["diff", "E", "1", "log"], b"volume log written 0\n"),
+    ):
+        got = ran([program, *words])
+        if got.returncode or part not in got.stdout or got.stderr != line:
+            sys.exit(f"{words} of a folder in transit: {got}")
+    got = ran([program, "delete", "E", "1"])
+    if (got.returncode, got.stdout, got.stderr) != (11, b"", line):
+        sys.exit(f"delete in a folder in transit: {got}")
+    shutil.rmtree("E")
+    return 6
+
+
 def main(program, room):
     os.chdir(room)
     tried = 0
@@ -115,10 +157,23 @@ def main(program, room):
             sys.exit(f"{words}: {got.returncode} {got.stdout} {got.stderr}, wanted {status} {told}")
 
     first, second, third = (bytes([byte]) * (3 * B) for byte in b"abc")
+    def words_of(name):
+        return [line.split()[0] for line in read(name).decode().splitlines()]
+
+    def lasts(name):
+        found = os.stat(name)
+        return found.st_mtime_ns, found.st_uid, found.st_gid
+
     write("db", first)
+    os.chmod("db", 0o604)
+    os.utime("db", ns=(5, 1_600_000_000_123_456_789))
+    if os.geteuid() == 0:
+        os.chown("db", 1234, 1235)
+    then = lasts("db")
     call(0, "", "create", "F", "6", "db=db", "log=-")
     call(0, "set 1\n", "cut", "F", "db", "log")
     write("db", second)
+    os.chmod("db", 0o640)
     call(0, "db written 3 copied 3\n", "update", "F", "db=db")
     call(0, "set 2\n", "cut", "--note", "nightly, before the upgrade", "F", "db")
     sets = ran([program, "sets", "F"]).stdout.decode()
@@ -128,9 +183,9 @@ def main(program, room):
         sys.exit(f"sets: {sets}")
     listed = json.loads(ran([program, "list", "--json", "F"]).stdout)
     if [of.pop("seconds") for of in listed["sets"]] != [int(moment) for moment in moments] or listed != {
-        "volumes": [{"name": "db", "blocks": 4, "length": 3 * B, "images": [
+        "volumes": [{"name": "db", "blocks": 4, "length": 3 * B, "in_transit": False, "images": [
             {"set": 1, "length": 3 * B, "used": 3}, {"set": 2, "length": 3 * B, "used": 0}]},
-            {"name": "log", "blocks": 1, "length": None, "images": [{"set": 1, "length": None, "used": 0}]}],
+            {"name": "log", "blocks": 1, "length": None, "in_transit": False, "images": [{"set": 1, "length": None, "used": 0}]}],
         "sets": [{"set": 1, "note": "", "images": 2, "used": 3, "exclusive": 3, "shared": 0},
             {"set": 2, "note": "nightly, before the upgrade", "images": 1, "used": 0, "exclusive": 0, "shared": 0}],
         "used": 3, "slots": 6, "last": 2}:
@@ -145,18 +200,23 @@ def main(program, room):
     call(0, "volume db written 0\n", "diff", "F", "2")
     call(3, "set 2: there is no image of it on log", "diff", "F", "1", "2", "log")
     call(3, "set 3: there is no image of it", "diff", "F", "1", "3")
+    tried += in_transit(program)
     for note in ("two\nlines", "\x7f", "\u00e9", "n" * 101):
         call(2, "usage: cut [--note TEXT] F NAME ..", "cut", "--note", note, "F", "db")
 
     for name, told in (("/dev/null", "/dev/null: is no file"), ("F", "F: is no file, but a directory")):
         call(4, told, "update", "F", f"db={name}")
     call(0, "", "restore", "F", "1", "db", "out")
-    has("out", first, 0o600)
+    has("out", first, 0o604)
+    if lasts("out") != then:
+        sys.exit(f"restore gave back {lasts('out')}, and not {then}")
     call(3, "out: is there already; --over takes its place", "restore", "F", "2", "db", "out")
-    has("out", first, 0o600)
-    os.chmod("out", 0o640)
+    has("out", first, 0o604)
     call(0, "", "restore", "--over", "F", "2", "db", "out")
     has("out", second, 0o640)
+    if lasts("out") != lasts("db"):
+        sys.exit(f"restore gave back {lasts('out')}, and not {lasts('db')}")
+    tried += without_lists(program)
     small_files = limited(resource.RLIMIT_FSIZE, 2 * B)
     call(5, "out~restored: could not be written: File too large", "restore", "--over", "F", "1", "db", "out", preexec_fn=small_files)
     has("out", second, 0o640)
@@ -164,7 +224,7 @@ def main(program, room):
     call(3, "there is no image of it", "restore", "--over", "F", "9", "db", "out")
     has("out", second, 0o640)
     call(0, "", "restore", "F", "db", "now")
-    has("now", second, 0o600)
+    has("now", second, 0o640)
     os.symlink("out", "link")
     call(3, "link: is no file", "restore", "--over", "F", "1", "db", "link")
     call(5, "nowhere/out~restored: could not be made: No such file", "restore", "F", "1", "db", "nowhere/out")
@@ -175,17 +235,17 @@ def main(program, room):
 
     os.mkdir("all")
     call(0, "", "restore", "F", "2", "all")
-    has("all/db", second, 0o600)
+    has("all/db", second, 0o640)
     call(3, "all/db: is there already; --over takes its place", "restore", "F", "1", "all")
     os.mkdir("all/log")
     call(3, "all/log: is no file", "restore", "--over", "F", "1", "all")
     os.rmdir("all/log")
     call(5, "all/db~restored: could not be written: File too large", "restore", "--over", "F", "1", "all", preexec_fn=small_files)
-    has("all/db", second, 0o600)
+    has("all/db", second, 0o640)
     got = ran([program, "restore", "--over", "F", "1", "all/"])
     if got.returncode or got.stderr != b"images: F: set 1 of log: its file was not there\n" or os.listdir("all") != ["db"]:
         sys.exit(f"restore of a set: {got.returncode} {got.stderr} {os.listdir('all')}")
-    has("all/db", first, 0o600)
+    has("all/db", first, 0o604)
     write("all/log", b"newer")
     write("all/db", b"newer")
     call(3, "all/log: is there, and was not in set 1; remove it first", "restore", "--over", "F", "1", "all")
@@ -219,12 +279,12 @@ def main(program, room):
     if read("F/images.area") != area or os.path.exists("F/images.open"):
         sys.exit("an update that --keep refused wrote something")
     call(0, "", "restore", "--over", "F", "1", "db", "out")
-    has("out", first, 0o640)
+    has("out", first, 0o604)
     call(0, "deleted set 1: 2\n", "prune", "--keep", "2", "F")
     call(0, "", "prune", "--keep", "2", "F")
     call(3, "there is no image of it", "show", "F", "1", "db")
     call(0, "deleted set 2: 1\n", "prune", "--keep", "1", "F")
-    if len(read("F/images.dates").splitlines()) != 4:
+    if words_of("F/images.dates") != ["sha256", "1", "1=db", "2", "2=db", "3", "3=db"]:
         sys.exit("a set that went lost its line before the next cut")
     for words in (["prune", "F"], ["prune", "--keep", "0", "F"], ["list", "--over", "F"], ["sets", "--json", "F"], ["cut", "--keep", "1", "F", "db"], ["restore", "F", "db"], ["diff", "F", "db"], ["diff", "F", "1", "2", "db", "log"],
                   ["create", "--wait", "1", "G", "1", "db=db"], ["list", "--wait", "1", "--wait", "1", "F"]):
@@ -246,7 +306,7 @@ def main(program, room):
     call(10, "in use by another process", "check", "--wait", "1", "F")
     threading.Timer(0.5, lambda: fcntl.flock(held, fcntl.LOCK_UN)).start()
     call(0, "set 4\n", "cut", "--wait", "30", "F", "db")
-    if [line.split()[0] for line in read("F/images.dates").splitlines()] != [b"sha256", b"3", b"4"]:
+    if words_of("F/images.dates") != ["sha256", "3", "3=db", "4", "4=db"]:
         sys.exit("a set that went kept its line")
     os.chdir("/")
     return f"{tried} calls of restore, sets, diff, prune, --keep, --wait and --help"

@@ -1,4 +1,6 @@
-use image_folder::{FileInput, Files, Job as Passes, Opened, Program, Status, capture, ended};
+use image_folder::{
+    FileInput, Files, Job as Passes, Opened, Program, Status, brought_of, capture, ended,
+};
 use volume_device::{FileDevice, FileFault};
 
 /// How many blocks are read at a time in a freeze: 16 MiB.
@@ -123,5 +125,6 @@ pub fn take_all(opened: &mut Opened, captures: Vec<Capture<'_>>) -> Result<(), S
             return Err(Status::DeviceFault);
         }
     }
-    Ok(())
+    let brought = brought_of(opened.folder.program.alloc(), &jobs)?;
+    opened.folder.note_together(&brought)
 }

@@ -162,6 +162,7 @@ impl<'a> FolderWork<'a> {
         let then = Instant::now(&self.program.rt).ok();
         compare(&mut passes, &mut self.opened.store)?;
         let (name, blocks, all) = (passes.input.name, passes.written, passes.input.blocks);
+        let brought = passes.input.brought();
         let waits = takes_sets(&self.opened, &passes)?;
         let mut jobs = Vec::new(self.program.alloc());
         jobs.push(passes)?;
@@ -175,6 +176,7 @@ impl<'a> FolderWork<'a> {
             );
         }
         if blocks > 0 {
+            self.opened.folder.note_apart(&[brought])?;
             overwrite(&mut self.opened, &mut jobs)?;
         }
         let ms = since(&self.program, then);
@@ -188,9 +190,6 @@ impl<'a> FolderWork<'a> {
     pub fn bring_all(&mut self) -> Result<(), Status> {
         self.opened.folder.dates()?;
         self.mark()?;
-        for name in &self.names {
-            self.opened.folder.note_together(&[*name])?;
-        }
         for place in 0..self.chosen.len() {
             let volume = self.chosen.get(place).copied().unwrap_or(0);
             match self.bring_one(volume) {
@@ -262,7 +261,6 @@ impl<'a> FolderWork<'a> {
         let set = self.cut()?;
         self.opened.note_date(set, "")?;
         self.opened.commit()?;
-        self.opened.folder.note_together(&self.names)?;
         Ok(set)
     }
 

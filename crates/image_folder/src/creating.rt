@@ -6,7 +6,7 @@ use crate::ended::of_folder;
 use crate::file_input::FileInput;
 use crate::folder::Folder;
 use crate::job::{
-    Job, before_try, check_all, compare, names_of, overwrite, say_changed, wait_out_all,
+    Job, before_try, brought_of, check_all, compare, overwrite, say_changed, wait_out_all,
 };
 use crate::naming::{check_once, may_name};
 use crate::new_store::{blocks_of, new_store, sum_of};
@@ -131,7 +131,7 @@ fn fill(folder: &Folder, slots: u32, jobs: &mut [Job<'_>]) -> Result<(), Status>
         Err(status) => Err(take_apart(program, store, status)),
         Ok(head) => {
             close(program, store)?;
-            folder.note_together(&names_of(program.alloc(), jobs)?)?;
+            folder.note_together(&brought_of(program.alloc(), jobs)?)?;
             folder.commit(head.bytes(), slots)
         }
     }

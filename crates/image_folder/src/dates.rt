@@ -1,8 +1,10 @@
-//! When sets were cut, and what was noted of them: a line `SET SECONDS NOTE` of each, by the clock since the year 1970.
+//! When sets were cut, and what was noted of them: a line `SET SECONDS NOTE` of each, by the clock since the year 1970. Behind it a line of the file of
+//! each of its images (`source`).
 
 use crate::folder::{DATES, Folder};
 use crate::pair::set_of;
 use crate::program::Program;
+use crate::source::{keyed, source_in};
 use crate::status::Status;
 use std::time::{SystemTime, UNIX_EPOCH};
 
@@ -41,6 +43,14 @@ fn parted(line: &str) -> Option<(u32, Dated<'_>)> {
     Some((set_of(set)?, Dated { seconds, note }))
 }
 
+/// The set that a line is of, be it of the set or of a file.
+fn set_in(line: &str) -> Option<u32> {
+    match keyed(line) {
+        Some((set, _, _)) => set,
+        None => Some(parted(line)?.0),
+    }
+}
+
 /// What lines say of a set, if it was dated.
 pub fn dated_in(lines: &str, set: u32) -> Option<Dated<'_>> {
     for line in lines.lines() {
@@ -54,7 +64,7 @@ pub fn dated_in(lines: &str, set: u32) -> Option<Dated<'_>> {
 
 /// Whether these are lines of sets, one at least.
 fn are_dates(lines: &str) -> bool {
-    lines.ends_with("\n") && lines.lines().all(|line| parted(line).is_some())
+    lines.ends_with("\n") && lines.lines().all(|line| set_in(line).is_some())
 }
 
 impl Folder {
@@ -67,19 +77,39 @@ impl Folder {
         }
     }
 
-    /// Notes when a set is cut, before it lasts. Of all others only those that stand, by rising numbers, keep their lines.
-    pub fn note_date(&self, standing: &[u32], set: u32, note: &str) -> Result<(), Status> {
+    /// Adds the lines of what the files of the volumes of these names are like, of which a set is cut.
+    fn add_sources(&self, set: u32, names: &[&str], new: &mut String) -> Result<(), Status> {
+        let Some(lines) = self.together()? else {
+            return Ok(());
+        };
+        for name in names {
+            if let Some(source) = source_in(lines.as_str(), None, name) {
+                write!(new, "{set}={name} {source}\n")?;
+            }
+        }
+        Ok(())
+    }
+
+    /// Notes when a set is cut over the volumes of these names, before it lasts. Of all others only those that stand, by rising numbers, keep their lines.
+    pub fn note_date(
+        &self,
+        standing: &[u32],
+        set: u32,
+        note: &str,
+        names: &[&str],
+    ) -> Result<(), Status> {
         let old = self.dates()?;
         let mut new = String::new(self.program.alloc());
         for line in old.lines() {
-            match parted(line) {
-                Some((of, _)) if of != set && standing.binary_search(&of).is_ok() => {
+            match set_in(line) {
+                Some(of) if of != set && standing.binary_search(&of).is_ok() => {
                     write!(new, "{line}\n")?;
                 }
                 _ => {}
             }
         }
         write!(new, "{set} {} {note}\n", seconds_now(&self.program))?;
+        self.add_sources(set, names, &mut new)?;
         self.put_list(DATES, new.as_str())
     }
 }

@@ -4,7 +4,9 @@ ghost use Rattle.vss_names.specs.Faults.{HasCause};
 use crate::own_file::is_same;
 use crate::program::Program;
 use crate::progress::Progress;
+use crate::source::Source;
 use crate::status::Status;
+use crate::together::Brought;
 use block_data::BLOCK;
 use byteorder::{ByteOrder, LittleEndian};
 use image_store::PassFault;
@@ -235,6 +237,18 @@ impl<'a> FileInput<'a> {
         match &self.source {
             Some((_, found)) => found.len(),
             None => ABSENT,
+        }
+    }
+
+    /// The volume that is brought to it, and what it was like when it was opened.
+    pub fn brought(&self) -> Brought<'a> {
+        let source = match &self.source {
+            Some((_, found)) => Some(Source::of(found)),
+            None => None,
+        };
+        Brought {
+            name: self.name,
+            source,
         }
     }
 

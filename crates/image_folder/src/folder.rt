@@ -35,11 +35,17 @@ pub const DATES: &str = "images.dates";
 /// What becomes the state's file by a rename.
 const STATE_NEW: &str = "images.state.new";
 
-/// The most bytes of a marker, and of the list of what was brought together.
-const MOST_SMALL: u64 = 8192;
+/// The most bytes of a marker.
+const MOST_MARKER: u64 = 8192;
+
+/// The most bytes of the list of what was brought together.
+const MOST_TOGETHER: u64 = 1 << 16;
 
 /// The most bytes of the list of sets.
 const MOST_DATES: u64 = 1 << 24;
+
+/// What is a line of no list.
+const NO_LINE: &str = "?";
 
 /// An open folder of images. It is locked until this is dropped.
 #[derive(Drop)]
@@ -112,15 +118,15 @@ impl Folder {
 
     /// The bytes of a small file of it, where it is there; none of one that is no file or too long.
     pub fn small(&self, name: &str) -> Result<Option<Vec<u8>>, Status> {
-        let most = if name == DATES {
-            MOST_DATES
-        } else {
-            MOST_SMALL
+        let most = match name {
+            DATES => MOST_DATES,
+            TOGETHER => MOST_TOGETHER,
+            _ => MOST_MARKER,
         };
         small_at(&self.program, self.path_of(name)?.as_str(), most)
     }
 
-    /// The lines of a list of it, where it is there; none of what cannot be one.
+    /// The lines of a list of it, where it is there; one of no list of what cannot be one.
     pub fn list(&self, name: &str) -> Result<Option<String>, Status> {
         let Some(bytes) = self.small(name)? else {
             return Ok(None);
@@ -129,7 +135,12 @@ impl Folder {
             self.program.alloc(),
             std::str::from_utf8(&bytes).unwrap_or(""),
         );
-        Ok(Some(String::from_str(alloc, lines_in(alloc, text)?)?))
+        let lines = if text.is_empty() {
+            NO_LINE
+        } else {
+            lines_in(alloc, text)?
+        };
+        Ok(Some(String::from_str(alloc, lines)?))
     }
 
     /// Says that a list of it is damaged.

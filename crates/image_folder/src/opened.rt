@@ -3,7 +3,7 @@
 ghost use Rattle.std.specs.Prelude.{◌≡◌, ◌<◌, length};
 
 use crate::device_file::Opening;
-use crate::ended::say;
+use crate::ended::{note, say};
 use crate::folder::{Folder, MARKER, STATE};
 use crate::job::{Job, sets_of};
 use crate::jobs::{FileReport, no_jobs};
@@ -183,25 +183,37 @@ impl Opened {
         Ok(())
     }
 
-    /// Refuses a call on a folder in which volumes are in transit that it does not bring to other contents: those of these names it does. Beside
-    /// another process the images alone are read, which are right.
-    pub fn check_transit(&self, brought: &[&str]) -> Result<(), Status> {
-        if self.folder.is_beside() {
-            return Ok(());
-        }
-        let (Folder { program, path, .. }, alloc) = (&self.folder, self.folder.program.alloc());
+    /// What is to be said of a folder in which volumes are in transit, but for those of these names. Beside another process nothing is.
+    fn said_of_transit(&self, but: &[&str]) -> Result<Option<String>, Status> {
+        let (path, alloc) = (self.folder.path.as_str(), self.folder.program.alloc());
         let mut names = String::new(alloc);
-        self.add_in_transit(brought, &mut names)?;
+        self.add_in_transit(but, &mut names)?;
         match &self.marker {
-            Some(marker) if !names.is_empty() => {
+            Some(marker) if !names.is_empty() && !self.folder.is_beside() => {
                 let mut all = String::new(alloc);
                 self.add_in_transit(&[], &mut all)?;
-                Err(
-                    ended!(*program, Unclean; "{path}: left open by {marker}; an update of{all} goes on, and ./images check {path} says what is whole"),
-                )
+                Ok(Some(format!(in alloc;
+                    "{path}: left open by {marker}; an update of{all} goes on, and ./images check {path} says what is whole"
+                )?))
             }
-            _ => Ok(()),
+            _ => Ok(None),
         }
+    }
+
+    /// Refuses a call on a folder in which volumes are in transit that it does not bring to other contents: those of these names it does.
+    pub fn check_transit(&self, brought: &[&str]) -> Result<(), Status> {
+        match self.said_of_transit(brought)? {
+            Some(line) => Err(ended!(self.folder.program, Unclean; "{line}")),
+            None => Ok(()),
+        }
+    }
+
+    /// Says that volumes are in transit, if some are: the images of all are right.
+    pub fn note_transit(&self) -> Result<(), Status> {
+        if let Some(line) = self.said_of_transit(&[])? {
+            note(&self.folder.program, line);
+        }
+        Ok(())
     }
 
     /// Makes the marker of this call.
@@ -261,8 +273,14 @@ impl Opened {
     pub fn note_date(&mut self, set: u32, note: &str) -> Result<(), Status>
         ensures { self.new.store ≡ self.old.store }
     {
-        let standing = sets_of(&self.store, self.folder.program.alloc())?;
-        self.folder.note_date(&standing, set, note)
+        let alloc = self.folder.program.alloc();
+        let (standing, mut names) = (sets_of(&self.store, alloc)?, Vec::new(alloc));
+        for volume in 0..self.store.volumes() {
+            if self.store.images(volume).contains(&set) {
+                names.push(name_in(&self.store, volume))?;
+            }
+        }
+        self.folder.note_date(&standing, set, note, &names)
     }
 
     /// Ends a call: what it changed lasts and the marker is gone before anything is printed.

@@ -5,7 +5,7 @@ use crate::program::Program;
 use crate::status::Status;
 use std::fs::{DirBuilder, File, Metadata};
 use std::io::{ErrorKind, Read};
-use std::os::unix::fs::{DirBuilderExt, MetadataExt, OpenOptionsExt};
+use std::os::unix::fs::{DirBuilderExt, MetadataExt, OpenOptionsExt, fchown};
 use std::{fs, io};
 
 /// Who may do what with a folder, and with a file of it: its owner alone.
@@ -69,18 +69,32 @@ pub fn all_of(program: &Program, mut file: File) -> io::Result<Vec<u8>> {
     Ok(bytes)
 }
 
-/// Makes a file of a folder. What had its name goes: a link there is not followed.
+/// Gives a file the owner and the group of the folder in which it lies, if that is another's: then the call is root's, and the owner has to read on.
+fn give_to_owner(program: &Program, file: &File, path: &str) -> io::Result<()> {
+    let (folder, found) = (
+        fs::metadata(&program.rt, parent_of(path))?,
+        file.metadata()?,
+    );
+    if folder.uid() == found.uid() {
+        return Ok(());
+    }
+    fchown(file, Some(folder.uid()), Some(folder.gid()))
+}
+
+/// Makes a file of a folder, of the folder's owner. What had its name goes: a link there is not followed.
 pub fn new_file(program: &Program, path: &str) -> io::Result<File> {
     match fs::remove_file(&program.rt, path) {
         Err(error) if error.kind() != ErrorKind::NotFound => return Err(error),
         _ => {}
     }
-    File::options()
+    let file = File::options()
         .read(true)
         .write(true)
         .create_new(true)
         .mode(FILE_MODE)
-        .open(&program.rt, path)
+        .open(&program.rt, path)?;
+    give_to_owner(program, &file, path)?;
+    Ok(file)
 }
 
 /// Makes a folder.

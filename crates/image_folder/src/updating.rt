@@ -4,7 +4,7 @@ ghost use Rattle.std.specs.Prelude.{◌<◌, length};
 
 use crate::file_input::FileInput;
 use crate::folder::{AREA, DATES, STATE, TOGETHER};
-use crate::job::{Job, before_try, check_all, compare, names_of, say_changed, wait_out_all};
+use crate::job::{Job, before_try, brought_of, check_all, compare, say_changed, wait_out_all};
 use crate::naming::{check_once, name_in};
 use crate::opened::Opened;
 use crate::pair::Pair;
@@ -62,8 +62,8 @@ fn lines_of(opened: &Opened, jobs: &[Job<'_>]) -> Result<String, Status> {
 
 /// Notes that the volumes of jobs are brought to their files together.
 fn note(opened: &Opened, jobs: &[Job<'_>]) -> Result<(), Status> {
-    let names = names_of(opened.folder.program.alloc(), jobs)?;
-    opened.folder.note_together(&names)
+    let brought = brought_of(opened.folder.program.alloc(), jobs)?;
+    opened.folder.note_together(&brought)
 }
 
 /// The second and the third pass, under a marker.

@@ -132,7 +132,7 @@ fn add_volume<'a>(
     let sums = shape.parted_sums(&program, first, blocks as usize)?;
     let sums = Arc::new(alloc, sums)?;
     add_entry(&program, shape, name, blocks)?;
-    folder.note_together(&[name])?;
+    folder.note_together(&[input.brought()])?;
     let line = format!(in alloc; "add {name}\n")?;
     mark(folder, line.as_str())?;
     let path = folder.path_of_volume(name)?;

@@ -3,7 +3,7 @@
 ghost use Rattle.std.specs.Prelude.{◌≡◌, ◌<◌, length};
 
 use crate::dated::{Sizes, sizes_of};
-use crate::list::{is_changing, length_of, said_if_lost};
+use crate::list::{length_of, said_if_lost, unsettled};
 use image_folder::{Opened, Status, dated_in, name_in, sets_of, which_at};
 use image_store::Which;
 use serde_json::{Value, json};
@@ -34,12 +34,14 @@ fn volume_value(
     name: &str,
     blocks: u32,
     length: Option<u64>,
+    is_in_transit: bool,
     images: Vec<Value>,
 ) -> Result<Value, AllocError> {
     json!(in alloc; {
         "name": name,
         "blocks": blocks,
         "length": number_or_null(length),
+        "in_transit": is_in_transit,
         "images": Value::Array(images),
     })
 }
@@ -63,7 +65,7 @@ fn set_value(
     })
 }
 
-/// The length of the file of a volume, or of its image; none too if it changes, or cannot be read, which is kept.
+/// The length of the file of a volume, or of its image; none too if it changes or is in transit, or cannot be read, which is kept.
 fn length_or_none(
     opened: &mut Opened,
     volume: u32,
@@ -73,7 +75,7 @@ fn length_or_none(
     requires { volume < length opened.old.store.group.area.volumes }
     ensures { opened.new.store.group.area.volumes ≡ opened.old.store.group.area.volumes }
 {
-    if is_changing(opened, which) {
+    if unsettled(opened, volume, which).is_some() {
         return Ok(None);
     }
     match length_of(opened, volume, which) {
@@ -137,7 +139,8 @@ fn add_volume(
     let length = length_or_none(opened, volume, Which::Now, done)?;
     add_images(opened, volume, &mut images, done)?;
     let (name, blocks) = (name_in(&opened.store, volume), opened.store.blocks(volume));
-    volumes.push(volume_value(alloc, name, blocks, length, images)?)?;
+    let is_in_transit = opened.is_in_transit(volume);
+    volumes.push(volume_value(alloc, name, blocks, length, is_in_transit, images)?)?;
     Ok(())
 }
 
@@ -175,7 +178,7 @@ pub fn add_value(text: &mut String, alloc: Global, value: &Value) -> Result<(), 
 
 /// `list --json F`: the volumes with their images, the sets, and the slots. If a volume cannot be read the rest is printed.
 pub fn list_as_json(opened: &mut Opened) -> Result<(), Status> {
-    opened.check_transit(&[])?;
+    opened.note_transit()?;
     let alloc = opened.folder.program.alloc();
     let mut done = Ok(());
     let volumes = volumes_of(opened, &mut done)?;

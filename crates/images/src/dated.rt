@@ -99,7 +99,7 @@ fn add_set(opened: &mut Opened, lines: &str, set: u32) -> Result<(), Status> {
 
 /// `sets F`: a line of each set, the oldest first.
 pub fn list_sets(opened: &mut Opened) -> Result<(), Status> {
-    opened.check_transit(&[])?;
+    opened.note_transit()?;
     let lines = opened.folder.dates()?;
     let sets = sets_of(&opened.store, opened.folder.program.alloc())?;
     for set in &sets {

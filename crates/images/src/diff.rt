@@ -155,7 +155,7 @@ pub fn diff(
     name: Option<&str>,
     is_json: bool,
 ) -> Result<(), Status> {
-    opened.check_transit(&[])?;
+    opened.note_transit()?;
     let only = check_sets(opened, span, name)?;
     let alloc = opened.folder.program.alloc();
     let mut values = is_json.then_some(Vec::new(alloc));

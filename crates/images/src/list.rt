@@ -4,9 +4,15 @@ use crate::show::refusal;
 use image_folder::{ABSENT, Opened, Status, name_in, say, which_at};
 use image_store::{ShowFault, Which};
 
-/// Whether what there is of a volume changes at any time: its present contents, beside another process.
-pub fn is_changing(opened: &Opened, which: Which) -> bool {
-    matches!(which, Which::Now) && opened.folder.is_beside()
+/// Why what there is of a volume has no length, if that is so: another process may change its present contents, or a call left them in transit.
+pub fn unsettled(opened: &Opened, volume: u32, which: Which) -> Option<&'static str>
+    requires { volume < length opened.now.store.group.area.volumes }
+{
+    match which {
+        Which::Now if opened.folder.is_beside() => Some("changing"),
+        Which::Now if opened.is_in_transit(volume) => Some("in transit"),
+        _ => None,
+    }
 }
 
 /// The length of the file of a volume, or of its image; none of a file that was not there.
@@ -27,8 +33,8 @@ fn said_of(opened: &mut Opened, volume: u32, which: Which) -> Result<String, Sta
     ensures { opened.new.store.group.area.volumes ≡ opened.old.store.group.area.volumes }
 {
     let alloc = opened.folder.program.alloc();
-    if is_changing(opened, which) {
-        return Ok(String::from_str(alloc, "changing")?);
+    if let Some(why) = unsettled(opened, volume, which) {
+        return Ok(String::from_str(alloc, why)?);
     }
     match length_of(opened, volume, which)? {
         Some(length) => Ok(format!(in alloc; "length {length}")?),
@@ -70,7 +76,7 @@ fn add_volume(opened: &mut Opened, volume: u32) -> Result<(), Status>
 
 /// `list F`: the volumes, their images, and the slots in use. If a volume cannot be read the others are printed.
 pub fn list(opened: &mut Opened) -> Result<(), Status> {
-    opened.check_transit(&[])?;
+    opened.note_transit()?;
     let mut done = Ok(());
     for volume in 0..opened.store.volumes() {
         match add_volume(opened, volume) {

@@ -4,15 +4,16 @@ use crate::list::length_of;
 use crate::sets::no_image;
 use crate::show::show_into;
 use crate::task::Shown;
-use image_folder::{Folder, Opened, Program, Status, ended, name_in, parent_of};
+use image_folder::{Folder, Opened, Program, Source, Status, ended, name_in, note, parent_of};
 use image_store::Which;
 use std::alloc::AllocError;
-use std::fs::{File, Metadata};
+use std::fs::{File, Metadata, Permissions};
 use std::io::ErrorKind;
-use std::os::unix::fs::OpenOptionsExt;
+use std::os::unix::fs::{OpenOptionsExt, PermissionsExt, fchown};
+use std::time::{Duration, UNIX_EPOCH};
 use std::{fs, io};
 
-/// Who may read and write a file that takes the place of none: its owner.
+/// Who may read and write a file until it is whole: its owner.
 const MODE: u32 = 0o600;
 
 /// The file that a restore makes, and whether it may take the place of one that is there.
@@ -98,7 +99,24 @@ fn settle(program: &Program, path: &str) -> Result<(), Status> {
     }
 }
 
-/// Writes the file aside, with the mode of the one whose place it takes, and sees that it lasts.
+/// Gives a file the mode, the last write and, if the system lets it, the owner of its source. If these are not kept it gets the mode of the file
+/// whose place it takes.
+fn set_source(file: &File, source: Option<Source>, old: Option<Metadata>) -> io::Result<()> {
+    match (source, old) {
+        (Some(source), _) => {
+            let _ = fchown(file, Some(source.user), Some(source.group));
+            file.set_permissions(Permissions::from_mode(source.mode))?;
+            match UNIX_EPOCH.checked_add(Duration::new(source.seconds, source.nanos)) {
+                Some(time) => file.set_modified(time),
+                None => Ok(()),
+            }
+        }
+        (None, Some(found)) => file.set_permissions(found.permissions()),
+        (None, None) => Ok(()),
+    }
+}
+
+/// Writes the file aside, with what is kept of its source, and sees that it lasts. If its mode or last write could not be set that is said.
 fn fill(
     opened: &mut Opened,
     of: Shown<'_>,
@@ -107,12 +125,18 @@ fn fill(
     old: Option<Metadata>,
 ) -> Result<(), Status> {
     let program = opened.folder.program;
-    if let Some(found) = old {
-        if let Err(error) = file.set_permissions(found.permissions()) {
-            return Err(ended!(program, WriteFault; "{aside}: could not get its mode: {error}"));
-        }
+    let source = opened.folder.source_of(of.set, of.name)?;
+    let file = show_into(opened, of, file, aside)?;
+    if let Err(error) = set_source(&file, source, old) {
+        note(
+            &program,
+            format_args!("{aside}: could not get its mode and its last write: {error}"),
+        );
     }
-    show_into(opened, of, file, aside)
+    match file.sync_all() {
+        Ok(()) => Ok(()),
+        Err(error) => Err(ended!(program, WriteFault; "{aside}: could not be synced: {error}")),
+    }
 }
 
 /// The path that a file has until it is whole. No volume has such a name, so no file of a set has this path.

@@ -3,7 +3,7 @@
 ghost use Rattle.std.specs.Prelude.{◌≡◌, ◌≢◌, ◌<◌, length, All, OnOk};
 ghost use Rattle.std.specs.List.{AllPairs};
 
-use image_folder::{Files, Opened, Status, ended, name_in, note, sets_of};
+use image_folder::{Brought, Files, Opened, Status, ended, name_in, note, sets_of};
 use image_store::CutFault;
 use vss_names::MOST_IMAGES;
 
@@ -39,7 +39,7 @@ fn add_places(opened: &Opened, names: &[String], volumes: &mut Vec<u32>) -> Resu
     Ok(())
 }
 
-/// Whether volumes of these names were brought to their files by one call.
+/// Whether it is known that volumes of these names were brought to their files by one call.
 fn are_together(opened: &Opened, names: &[String]) -> Result<bool, Status> {
     let mut words = Vec::new(opened.folder.program.alloc());
     for name in names {
@@ -64,7 +64,7 @@ pub fn cut(opened: &mut Opened, note_of: &str, names: &[String]) -> Result<(), S
                 note(
                     program,
                     format_args!(
-                        "{path}: set {set} is of volumes that were not brought to their files by one update"
+                        "{path}: set {set}: its files are not known to be of one moment; they are if one update of all of them comes before the cut"
                     ),
                 );
             }
@@ -143,5 +143,6 @@ pub fn revert(opened: &mut Opened, set: u32, name: &str) -> Result<(), Status> {
     let lines = format!(in opened.folder.program.alloc(); "revert\n{name}\n")?;
     drop_newer(&mut opened.store, set, volume);
     opened.revert(lines.as_str(), set, volume)?;
-    opened.folder.note_together(&[name])
+    let source = opened.folder.source_of(Some(set), name)?;
+    opened.folder.note_together(&[Brought { name, source }])
 }

@@ -127,18 +127,19 @@ fn unwritten(program: &Program, path: &str, last: Option<io::Error>) -> Status {
     }
 }
 
-/// Writes a file into another one, and sees that it lasts. What could not be written is said of its path.
-pub fn show_into(opened: &mut Opened, of: Shown<'_>, file: File, path: &str) -> Result<(), Status> {
+/// Writes a file into another one, which is answered. What could not be written is said of its path.
+pub fn show_into(
+    opened: &mut Opened,
+    of: Shown<'_>,
+    file: File,
+    path: &str,
+) -> Result<File, Status> {
     let program = opened.folder.program;
     let (volume, which) = found(opened, of)?;
     let mut sink = ShownSink::new(&program, file, None);
     match fill(opened, volume, which, "restored", &mut sink) {
-        Ok(()) => {}
-        Err(ShowFault::Sink) => return Err(unwritten(&program, path, sink.last)),
-        Err(fault) => return Err(refusal(opened, volume, which, fault)),
-    }
-    match sink.into_out().sync_all() {
-        Ok(()) => Ok(()),
-        Err(error) => Err(ended!(program, WriteFault; "{path}: could not be synced: {error}")),
+        Ok(()) => Ok(sink.into_out()),
+        Err(ShowFault::Sink) => Err(unwritten(&program, path, sink.last)),
+        Err(fault) => Err(refusal(opened, volume, which, fault)),
     }
 }
