@@ -3,8 +3,8 @@
 ghost use Rattle.std.specs.Prelude.{◌≡◌, ◌<◌, length};
 
 use crate::dated::{Sizes, sizes_of};
-use crate::list::{is_changing, length_of, said_if_lost};
-use image_folder::{Opened, Status, dated_in, name_in, sets_of, which_at};
+use crate::list::{is_changing, length_of_all, said_if_lost, size_of};
+use image_folder::{Opened, Status, dated_in, is_part, name_in, sets_of, which_at};
 use image_store::Which;
 use serde_json::{Value, json};
 use std::alloc::{AllocError, Global};
@@ -76,7 +76,7 @@ fn length_or_none(
     if is_changing(opened, which) {
         return Ok(None);
     }
-    match length_of(opened, volume, which) {
+    match length_of_all(opened, volume, which) {
         Err(Status::DeviceFault) => {
             *done = Err(Status::DeviceFault);
             Ok(None)
@@ -98,7 +98,7 @@ fn add_image(
 {
     let length = length_or_none(opened, volume, which, done)?;
     if let Which::Of(set) = which {
-        let used = opened.store.used_by(volume, set).unwrap_or(0);
+        let used = size_of(opened, volume, which)?;
         let alloc = opened.folder.program.alloc();
         images.push(image_value(alloc, set, length, used)?)?;
     }
@@ -136,7 +136,8 @@ fn add_volume(
     let mut images = Vec::new(alloc);
     let length = length_or_none(opened, volume, Which::Now, done)?;
     add_images(opened, volume, &mut images, done)?;
-    let (name, blocks) = (name_in(&opened.store, volume), opened.store.blocks(volume));
+    let blocks = size_of(opened, volume, Which::Now)?;
+    let name = name_in(&opened.store, volume);
     volumes.push(volume_value(alloc, name, blocks, length, images)?)?;
     Ok(())
 }
@@ -145,7 +146,9 @@ fn add_volume(
 fn volumes_of(opened: &mut Opened, done: &mut Result<(), Status>) -> Result<Vec<Value>, Status> {
     let mut volumes = Vec::new(opened.folder.program.alloc());
     for volume in 0..opened.store.volumes() {
-        add_volume(opened, volume, &mut volumes, done)?;
+        if !is_part(&opened.store, opened.folder.program.alloc(), volume)? {
+            add_volume(opened, volume, &mut volumes, done)?;
+        }
     }
     Ok(volumes)
 }

@@ -1,0 +1,130 @@
+//! A file may be longer than a volume. Then several volumes keep it, its parts: the first has the name of the file, and each other one that name and
+//! its number, as `db..001`. A part that another one follows has 65,535 blocks of the file, and like each volume a last block with the length of what
+//! it has. So a file of so many blocks has room for 16,384 bytes in each of them but for the last eight, in one volume or in many.
+
+ghost use Rattle.std.specs.Prelude.{◌≡◌, ◌<◌, ◌≤◌, ◌+◌, ◌*◌, IfOk, IfSome, length};
+ghost use Rattle.image_folder.specs.Parts.{length_in_part, part_name};
+
+use crate::program::Program;
+use crate::status::Status;
+use block_data::BLOCK;
+use std::alloc::Global;
+use vss_names::{MOST_BLOCKS, MOST_NAME, MOST_VOLUMES, OutOfMemory, Text};
+
+/// How many blocks of its file a part has that another one follows.
+pub const PART: u32 = MOST_BLOCKS - 1;
+
+/// How many bytes these are.
+const PART_BYTES: u64 = PART as u64 * BLOCK as u64;
+
+/// The most blocks of a file.
+pub const MOST_OF_FILE: u32 = MOST_VOLUMES * PART + 1;
+
+/// How many bytes the name of a part has behind that of its file.
+const TAIL: usize = 5;
+
+/// Which part of its file a volume keeps: the number, from 0 on.
+#[derive(Clone, Copy)]
+pub struct Part {
+    pub number: u32,
+    pub is_last: bool,
+}
+
+impl Part {
+    /// All of a file.
+    pub const WHOLE: Part = Part {
+        number: 0,
+        is_last: true,
+    };
+
+    /// The part of this number of a file of so many.
+    pub fn of(number: usize, parts: usize) -> Part {
+        Part {
+            number: u32::try_from(number).unwrap_or(u32::MAX),
+            is_last: number.saturating_add(1) >= parts,
+        }
+    }
+
+    /// Where it begins in its file.
+    pub fn start(self) -> u64
+        ensures { result ≡ self.number * (65535 * 16384) }
+    {
+        u64::from(self.number) * PART_BYTES
+    }
+
+    /// How many bytes it has of a file of so many.
+    pub fn length_in(self, length: u64) -> u64 {
+        let left = length.saturating_sub(self.start());
+        if self.is_last {
+            left
+        } else {
+            left.min(PART_BYTES)
+        }
+    }
+}
+
+/// How many parts a file of so many blocks has.
+pub fn parts_for(blocks: u32) -> u32 {
+    blocks.saturating_sub(1).div_ceil(PART).max(1)
+}
+
+/// How many blocks the volume of a part has, of a file of so many blocks.
+pub fn blocks_of_part(blocks: u32, number: u32) -> u32 {
+    if number.saturating_add(1) < parts_for(blocks) {
+        return MOST_BLOCKS;
+    }
+    blocks.saturating_sub(number.saturating_mul(PART))
+}
+
+/// How many blocks a file has that is kept in so many parts, of which the last has so many.
+pub fn blocks_of_file(parts: usize, last: u32) -> u32 {
+    let others = u32::try_from(parts.saturating_sub(1)).unwrap_or(MOST_VOLUMES);
+    others.saturating_mul(PART).saturating_add(last)
+}
+
+/// The name of a part of the file of a name.
+pub fn part_name(alloc: Global, name: &str, number: u32) -> Result<Text, OutOfMemory> {
+    let mut text = Text::copy(alloc, name.as_bytes())?;
+    if number > 0 {
+        let [hundreds, tens, ones] = [number / 100 % 10, number / 10 % 10, number % 10];
+        text.add(&[
+            b'.',
+            b'.',
+            b'0' + hundreds as u8,
+            b'0' + tens as u8,
+            b'0' + ones as u8,
+        ])?;
+    }
+    Ok(text)
+}
+
+/// The name of a file, and the number of a part of it, in the name of this part.
+pub fn parted(name: &[u8]) -> Option<(&[u8], u32)> {
+    let [whole @ .., b'.', b'.', hundreds, tens, ones] = name else {
+        return None;
+    };
+    let mut number = 0u32;
+    for digit in [*hundreds, *tens, *ones] {
+        if !digit.is_ascii_digit() {
+            return None;
+        }
+        number = number.saturating_mul(10).saturating_add(u32::from(digit - b'0'));
+    }
+    Some((whole, number))
+}
+
+/// The text of a name.
+pub fn text_of(name: &Text) -> &str {
+    std::str::from_utf8(name.bytes()).unwrap_or("")
+}
+
+/// That the parts of a file of so many blocks may have names behind that of the file.
+pub fn check_parts(program: &Program, name: &str, blocks: u32) -> Result<(), Status> {
+    if parts_for(blocks) > 1 && name.len() + TAIL > MOST_NAME as usize {
+        let most = MOST_NAME as usize - TAIL;
+        return Err(
+            ended!(*program, Refused; "name `{name}`: more than {most} bytes, and {blocks} blocks take several volumes"),
+        );
+    }
+    Ok(())
+}
