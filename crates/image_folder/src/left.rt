@@ -33,7 +33,7 @@ fn remove_parts(
 ) -> Result<bool, Status> {
     let mut is_any = false;
     for number in 0..parts {
-        let part = part_name(folder.program.alloc(), name, number)?;
+        let part = part_name(folder.program.alloc(), name.as_bytes(), number)?;
         if !is_volume(catalog, text_of(&part)) {
             let path = folder.path_of_volume(text_of(&part))?;
             remove_file(&folder.program, path.as_str())?;

@@ -240,7 +240,7 @@ fn more_blocks(
     let mut inputs = new_parts(&program, name, parts, blocks.min(MOST_OF_FILE))?;
     let had_in_all = blocks_of_file(volumes.len(), had);
     check_more(&program, shape, name, (had_in_all, blocks), &inputs)?;
-    let part = part_name(alloc, name, parts.saturating_sub(1))?;
+    let part = part_name(alloc, name.as_bytes(), parts.saturating_sub(1))?;
     let size = blocks_of_part(blocks, parts.saturating_sub(1));
     let growth = Growth::of(shape, last, text_of(&part), size)?;
     let tails = if size > had {

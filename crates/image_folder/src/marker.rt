@@ -73,7 +73,7 @@ fn add_parts(
         return Ok(());
     }
     for number in 1..MOST_VOLUMES {
-        let part = part_name(alloc, name, number)?;
+        let part = part_name(alloc, name.as_bytes(), number)?;
         if !is_volume(catalog, text_of(&part)) {
             break;
         }

@@ -109,7 +109,7 @@ fn new_area(folder: &Folder, slots: u32, blocks: &[u32]) -> Result<Area<StoreDev
 
 /// The name of the volume of a job.
 fn name_of(alloc: Global, job: &Job<'_>) -> Result<Text, OutOfMemory> {
-    part_name(alloc, job.input.name, job.input.part.number)
+    part_name(alloc, job.input.name.as_bytes(), job.input.part.number)
 }
 
 /// The devices of the volumes, of zeros.

@@ -2,8 +2,8 @@
 //! its number, as `db..001`. A part that another one follows has 65,535 blocks of the file, and like each volume a last block with the length of what
 //! it has. So a file of so many blocks has room for 16,384 bytes in each of them but for the last eight, in one volume or in many.
 
-ghost use Rattle.std.specs.Prelude.{◌≡◌, ◌<◌, ◌≤◌, ◌+◌, ◌*◌, IfOk, IfSome, length};
-ghost use Rattle.image_folder.specs.Parts.{length_in_part, part_name};
+ghost use Rattle.std.specs.Prelude.{◌≡◌, ◌<◌, ◌≤◌, ◌+◌, ◌*◌, ◌-◌, ◌/◌, ℕ, List, IfOk, IfSome, length};
+ghost use Rattle.image_folder.specs.Parts.{joined, part_name, piece_length};
 
 use crate::program::Program;
 use crate::status::Status;
@@ -47,13 +47,15 @@ impl Part {
 
     /// Where it begins in its file.
     pub fn start(self) -> u64
-        ensures { result ≡ self.number * (65535 * 16384) }
+        ensures { result ≡ self.number * 1073725440 }
     {
         u64::from(self.number) * PART_BYTES
     }
 
     /// How many bytes it has of a file of so many.
-    pub fn length_in(self, length: u64) -> u64 {
+    pub fn length_in(self, length: u64) -> u64
+        ensures { result ≡ piece_length 1073725440 self.number self.is_last length }
+    {
         let left = length.saturating_sub(self.start());
         if self.is_last {
             left
@@ -64,12 +66,19 @@ impl Part {
 }
 
 /// How many parts a file of so many blocks has.
-pub fn parts_for(blocks: u32) -> u32 {
-    blocks.saturating_sub(1).div_ceil(PART).max(1)
+pub fn parts_for(blocks: u32) -> u32
+    ensures value { result ≡ 1 + (blocks - 2) / 65535 }
+    ensures few { blocks ≤ MOST_OF_FILE → result ≤ MOST_VOLUMES }
+{
+    1 + blocks.saturating_sub(2) / PART
 }
 
 /// How many blocks the volume of a part has, of a file of so many blocks.
-pub fn blocks_of_part(blocks: u32, number: u32) -> u32 {
+pub fn blocks_of_part(blocks: u32, number: u32) -> u32
+    ensures other { number < (blocks - 2) / 65535 → result ≡ MOST_BLOCKS }
+    ensures last { number ≡ (blocks - 2) / 65535 → number * 65535 + result ≡ blocks }
+    ensures few { number ≡ (blocks - 2) / 65535 → result ≤ MOST_BLOCKS }
+{
     if number.saturating_add(1) < parts_for(blocks) {
         return MOST_BLOCKS;
     }
@@ -77,14 +86,18 @@ pub fn blocks_of_part(blocks: u32, number: u32) -> u32 {
 }
 
 /// How many blocks a file has that is kept in so many parts, of which the last has so many.
-pub fn blocks_of_file(parts: usize, last: u32) -> u32 {
+pub fn blocks_of_file(parts: usize, last: u32) -> u32
+    ensures { parts ≤ 128 → last ≤ 65536 → result ≡ (parts - 1) * 65535 + last }
+{
     let others = u32::try_from(parts.saturating_sub(1)).unwrap_or(MOST_VOLUMES);
     others.saturating_mul(PART).saturating_add(last)
 }
 
 /// The name of a part of the file of a name.
-pub fn part_name(alloc: Global, name: &str, number: u32) -> Result<Text, OutOfMemory> {
-    let mut text = Text::copy(alloc, name.as_bytes())?;
+pub fn part_name(alloc: Global, name: &[u8], number: u32) -> Result<Text, OutOfMemory>
+    ensures { IfOk result (λ text. text.bytes ≡ part_name name.now number) }
+{
+    let mut text = Text::copy(alloc, name)?;
     if number > 0 {
         let [hundreds, tens, ones] = [number / 100 % 10, number / 10 % 10, number % 10];
         text.add(&[
@@ -99,19 +112,24 @@ pub fn part_name(alloc: Global, name: &str, number: u32) -> Result<Text, OutOfMe
 }
 
 /// The name of a file, and the number of a part of it, in the name of this part.
-pub fn parted(name: &[u8]) -> Option<(&[u8], u32)> {
-    let [whole @ .., b'.', b'.', hundreds, tens, ones] = name else {
-        return None;
-    };
-    let mut number = 0u32;
-    for digit in [*hundreds, *tens, *ones] {
-        if !digit.is_ascii_digit() {
-            return None;
+pub fn parted(name: &[u8]) -> Option<(&[u8], u32)>
+    ensures { IfSome result (λ it. 0 < it.1 → name.now ≡ part_name it.0.now it.1) }
+{
+    match name {
+        [whole @ .., b'.', b'.', hundreds @ b'0'..=b'9', tens @ b'0'..=b'9', ones @ b'0'..=b'9'] => {
+            let [hundreds, tens, ones] = [hundreds - b'0', tens - b'0', ones - b'0'];
+            let number = 100 * u32::from(hundreds) + 10 * u32::from(tens) + u32::from(ones);
+            Some((whole, number))
         }
-        number = number.saturating_mul(10).saturating_add(u32::from(digit - b'0'));
+        _ => None,
     }
-    Some((whole, number))
 }
+
+/// The parts of a file, one behind another, are the file: however many come behind the first.
+#[tactic(auto, using(crate::proofs::Joins::joined_is_file))]
+pub fn the_parts_are_the_file()
+    ensures { (more : ℕ) (file : List ℕ) → joined 1073725440 0 more file ≡ file }
+{}
 
 /// The text of a name.
 pub fn text_of(name: &Text) -> &str {

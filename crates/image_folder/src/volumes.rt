@@ -132,7 +132,7 @@ fn fill(
 
 /// The path of the file of the volume of an input.
 fn path_of(folder: &Folder, input: &FileInput<'_>) -> Result<String, Status> {
-    let name = part_name(folder.program.alloc(), input.name, input.part.number)?;
+    let name = part_name(folder.program.alloc(), input.name.as_bytes(), input.part.number)?;
     Ok(folder.path_of_volume(text_of(&name))?)
 }
 
@@ -145,7 +145,7 @@ pub fn add_entries(
     let first = blocks_in(shape.head.catalog());
     let sums = shape.parted_sums(program, first, blocks_of_all(inputs) as usize)?;
     for input in inputs {
-        let name = part_name(program.alloc(), input.name, input.part.number)?;
+        let name = part_name(program.alloc(), input.name.as_bytes(), input.part.number)?;
         add_entry(program, shape, text_of(&name), input.blocks)?;
     }
     shape.sums = Arc::new(program.alloc(), sums)?;
@@ -288,7 +288,7 @@ fn take_away(
     }
     for (number, volume) in volumes.iter().enumerate() {
         take_one(&program, shape, *volume)?;
-        let part = part_name(alloc, name, u32::try_from(number).unwrap_or(u32::MAX))?;
+        let part = part_name(alloc, name.as_bytes(), u32::try_from(number).unwrap_or(u32::MAX))?;
         shape.gone.push(folder.path_of_volume(text_of(&part))?)?;
     }
     let line = line_of_parts(alloc, "remove", name, volumes.len())?;
