@@ -11,6 +11,7 @@ import failing
 import faults
 import kill
 import lists
+import long
 import power
 import terminal
 import torn
@@ -19,7 +20,7 @@ import words
 TOP = os.path.dirname(os.path.dirname(os.path.dirname(os.path.abspath(__file__))))
 # the parts, with what each is given in the gate and by hand; None where it is left out there
 PARTS = (
-    (lists, (0, 80), (1000, 2000)), (kill, (3,), ()), (beside, (5,), (1,)), (power, (9,), ()), (damage, (997,), ()), (words, (), None),
+    (lists, (0, 80), (1000, 2000)), (kill, (3,), ()), (beside, (5,), (1,)), (power, (9,), ()), (damage, (997,), ()), (words, (), None), (long, (), (2684354560,)),
     (torn, (20,), (500,)), (terminal, (), None), (faults, None, ()), (failing, None, ()),
 )
 

@@ -105,7 +105,7 @@ class Drawing:
         if kind < 0.6:
             count = {v.name: v.count for v in store.volumes} if store else {}
             name = self.name()
-            return ["grow", "F", f"{name}={count.get(name, 1) + self.draw.choice([0, 1, 1, 3, 70000])}"]
+            return ["grow", "F", f"{name}={count.get(name, 1) + self.draw.choice([0, 1, 1, 3, 9000000])}"]
         if kind < 0.8:
             return ["remove", "F", self.name()]
         self.new_file("new", 40000)
@@ -115,9 +115,9 @@ class Drawing:
         return self.draw.choice([
             ["check", "F"], ["check", "folder"], ["list", "none"], ["list", "db"], [], ["list"], ["lists", "F"], ["cut", "F"], ["show", "F"], ["delete", "F"],
             ["create", "F", "4", "db=db"], ["create", "G", "70000", "db=db"], ["create", "G", "04", "db=db"], ["create", "G", "4", "9x=db"], ["create", "G", "4", "=db"],
-            ["create", "G", "4", "a=db", "a=db"], ["create", "G", "4", "a:0=db"], ["create", "G", "4", "a:65537=db"], ["create", "G", "4", "a:x=db"],
+            ["create", "G", "4", "a=db", "a=db"], ["create", "G", "4", "a:0=db"], ["create", "G", "4", "a:8388482=db"], ["create", "G", "4", "a:x=db"],
             ["create", "G", "4", "a b=db"], ["create", "G", "4", "n" * 33 + "=db"], ["create", "G", "4", "a=missing"], ["create", "G", "4", "a=folder"],
-            ["create", "G", "4", "a:65536=db", "b:65536=db", "c:1=db"], ["create", "folder", "4", "a=db"], ["update", "F"], ["revert", "F", "1"],
+            ["create", "G", "4", "a:8388481=db", "b:65537=db"], ["create", "folder", "4", "a=db"], ["update", "F"], ["revert", "F", "1"],
             ["create", "G", "4", "a=-"], ["update", "--tries", "0", "F", "db=db"], ["update", "--tries", "F", "db=db"], ["list", "--tries", "1", "F"],
             ["create", "G", "a=db"], ["show", "F", "db", "1"], ["digest", "F", "db", "0"], ["delete", "F", "db", "2"], ["revert", "F", "db", "1"],
             ["grow", "F"], ["grow", "F", "x"], ["grow", "F", "db=x"], ["grow", "F", "70000"], ["add", "F", "db"], ["add", "F", "9=db"], ["add", "F", "n=missing"],

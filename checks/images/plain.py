@@ -9,6 +9,7 @@ import hashlib
 import struct
 
 BLOCK = 16384
+MOST = 128 * 65535 + 1  # blocks of a file: 65,535 in each of 128 volumes, and one with its length
 FORMS = {
     "create": "create [--tries N] F SLOTS NAME[:BLOCKS]=FILE ..",
     "cut": "cut [--note TEXT] F NAME ..",
@@ -125,6 +126,14 @@ class Volume:
         self.count = count
         self.images = []  # the oldest first
         self.tails = {}  # what blocks that were the last end with, while they are not written
+
+    @staticmethod
+    def parts_for(count):
+        """How many volumes of 65,536 blocks keep a file of so many, of which each has one for a length."""
+        return max(1, -(-(count - 1) // 65535))
+
+    def parts(self):
+        return self.parts_for(self.count)
 
     def blocks(self):
         """Its blocks as they are."""
@@ -253,8 +262,10 @@ class Plain:
         if None in pairs:
             return False
         self.check_create(folder, slots, pairs)
-        volumes = [self.new_volume(*of) for of in pairs]
-        self.check_total(sum(v.count for v in volumes))
+        volumes = []
+        for of in pairs:
+            volumes.append(self.new_volume(*of))
+            self.check_parts(sum(v.parts() for v in volumes))
         self.stores[folder] = Store(slots, volumes)
         return True
 
@@ -266,14 +277,20 @@ class Plain:
         return Volume(name, data, (length + 8 + BLOCK - 1) // BLOCK if count is None else count)
 
     @staticmethod
-    def check_total(total):
-        if total > 131072:
-            raise Ends(3, f"blocks: {total} in all, at most 131072")
+    def check_parts(total):
+        if total > 128:
+            raise Ends(3, f"volumes: {total}, at most 128")
+
+    @staticmethod
+    def check_more(store, more):
+        total = sum(v.parts() for v in store.volumes)
+        if total + more > 128:
+            raise Ends(3, f"volumes: {total} are there and {more} would come, at most 128")
 
     @staticmethod
     def check_count(name, count):
-        if count is not None and not 1 <= count <= 65536:
-            raise Ends(3, f"{name}: blocks: {count}, and a volume has 1 to 65536")
+        if count is not None and not 1 <= count <= MOST:
+            raise Ends(3, f"{name}: blocks: {count}, and a file has 1 to {MOST}")
 
     @staticmethod
     def check_slots(slots):
@@ -460,7 +477,7 @@ class Plain:
         self.check_count(name, count)
         if count <= v.count:
             raise Ends(3, f"{name}: blocks: {count}, and it has {v.count} already; a volume only grows")
-        self.check_total(sum(of.count for of in store.volumes) - v.count + count)
+        self.check_more(store, Volume.parts_for(count) - v.parts())
         needed, free = sum(v.count - 1 in i.copied for i in v.images), store.slots - store.used()
         if needed > free:
             raise Ends(3, f"{folder}: slots: too few are free for the images of {name}; ./images grow {folder} SLOTS makes more")
@@ -479,7 +496,7 @@ class Plain:
         self.read(file)
         self.check_count(name, count)
         v = self.new_volume(name, count, file)
-        self.check_total(sum(of.count for of in store.volumes) + v.count)
+        self.check_more(store, v.parts())
         store.volumes.append(v)
         store.bring([name])
         out.append(b"volume %s blocks %d\n" % (name.encode(), v.count))

@@ -33,12 +33,17 @@ impl<'a> Capture<'a> {
         }
     }
 
+    /// Whether all of it was read.
+    fn is_read(&self) -> bool {
+        self.at >= self.passes.input.blocks
+    }
+
     /// Reads the next part. Whether it was the last is answered.
     fn read_part(&mut self, program: &Program, store: &mut Files) -> Result<bool, Status> {
         let to = self.at.saturating_add(PART);
         capture(&mut self.passes, store, &mut self.spool, self.at, to)?;
         self.at = to;
-        if to < self.passes.input.blocks {
+        if !self.is_read() {
             return Ok(false);
         }
         self.check(program)?;
@@ -67,16 +72,21 @@ impl<'a> Capture<'a> {
     }
 }
 
-/// Reads the next part of the file of a volume. Whether it was the last is answered.
+/// Reads the next part of the file of a volume of the job, which one volume of the folder keeps or several. Whether it was the last is answered.
 pub fn read_part(
     program: &Program,
     store: &mut Files,
     captures: &mut Vec<Capture<'_>>,
     volume: u32,
 ) -> Result<bool, Status> {
+    let mut left = 0u32;
+    for capture in captures.iter() {
+        left = left.saturating_add(u32::from(capture.volume == volume && !capture.is_read()));
+    }
     for capture in captures.iter_mut() {
-        if capture.volume == volume {
-            return capture.read_part(program, store);
+        if capture.volume == volume && !capture.is_read() {
+            let is_last = capture.read_part(program, store)?;
+            return Ok(is_last && left == 1);
         }
     }
     Err(Status::DeviceFault)

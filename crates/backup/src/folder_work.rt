@@ -4,7 +4,7 @@ ghost use Rattle.std.specs.List.{AllPairs};
 use crate::capture::{Capture, check_all, fault_of, overwrite, read_part, take_all};
 use crate::chosen::Chosen;
 use image_folder::{
-    FileInput, Job as Passes, Opened, Program, Status, Way, compare, ended, goes_up_to, is_own,
+    FileInput, Job as Passes, Opened, Program, Status, Way, add_jobs, compare, ended, goes_up_to,
     open, say, sets_of, want_of,
 };
 use live_backup::JobVolume;
@@ -60,16 +60,18 @@ fn add_places(opened: &Opened, names: &[&str], places: &mut Vec<u32>) -> Result<
     ensures apart { OnOk result (AllPairs (λ u v. u ≢ v) places.new.items) }
 {
     for name in names {
-        opened.add_place(name, places)?;
+        opened.add_places(name, places)?;
     }
     Ok(())
 }
 
-/// Whether a set would go for copies of the blocks of a volume that differ.
-fn takes_sets(opened: &Opened, passes: &Passes<'_>) -> Result<bool, Status> {
+/// Whether a set would go for copies of the blocks of the volumes of a file that differ.
+fn takes_sets(opened: &Opened, passes: &[Passes<'_>]) -> Result<bool, Status> {
     let alloc = opened.folder.program.alloc();
     let mut wants = Vec::new(alloc);
-    wants.push(want_of(&opened.store, alloc, passes)?)?;
+    for one in passes {
+        wants.push(want_of(&opened.store, alloc, one)?)?;
+    }
     let sets = sets_of(&opened.store, alloc)?;
     Ok(goes_up_to(&opened.store, &sets, &wants) > 0)
 }
@@ -108,23 +110,14 @@ impl<'a> FolderWork<'a> {
         Ok(FolderWork::new(opened, chosen))
     }
 
-    /// The passes of a volume of the job over its file, of as many blocks.
-    fn passes(&self, volume: u32) -> Result<Passes<'a>, Status> {
+    /// The passes of a volume of the job over its file: of each volume of the folder that keeps a part of it, of as many blocks.
+    fn passes(&self, volume: u32) -> Result<Vec<Passes<'a>>, Status> {
         let Some(of) = self.volumes.get(volume as usize) else {
             return Err(Status::DeviceFault);
         };
-        let place = self.opened.place_of(of.name)?;
-        let mut input = if of.may_lack {
-            FileInput::open_or_none(&self.program, of.file)?
-        } else {
-            FileInput::open(&self.program, of.file)?
-        };
-        if is_own(&self.opened, &input)? {
-            let folder = self.opened.folder.path.as_str();
-            return Err(ended!(self.program, Refused; "{}: is a file of {folder}", of.file));
-        }
-        input.fit(of.name, self.opened.store.blocks(place))?;
-        Ok(Passes::new(self.program.alloc(), place, input)?)
+        let mut passes = Vec::new(self.program.alloc());
+        add_jobs(&self.opened, of.name, of.file, of.may_lack, &mut passes)?;
+        Ok(passes)
     }
 
     /// Makes the marker of an update of the volumes of the set, unless it is there.
@@ -157,16 +150,21 @@ impl<'a> FolderWork<'a> {
 
     /// Brings a volume near its file, if no set goes for it.
     fn bring_one(&mut self, volume: u32) -> Result<(), Status> {
-        let mut passes = self.passes(volume)?;
-        self.say_none(volume, &passes.input)?;
+        let mut jobs = self.passes(volume)?;
+        let Some(first) = jobs.first() else {
+            return Ok(());
+        };
+        let name = first.input.name;
+        self.say_none(volume, &first.input)?;
         let then = Instant::now(&self.program.rt).ok();
-        compare(&mut passes, &mut self.opened.store)?;
-        let (name, blocks, all) = (passes.input.name, passes.written, passes.input.blocks);
-        let brought = passes.input.brought();
-        let waits = takes_sets(&self.opened, &passes)?;
-        let mut jobs = Vec::new(self.program.alloc());
-        jobs.push(passes)?;
-        if waits {
+        let brought = first.input.brought();
+        let (mut blocks, mut all) = (0u32, 0u32);
+        for passes in jobs.iter_mut() {
+            compare(passes, &mut self.opened.store)?;
+            blocks = blocks.saturating_add(passes.written);
+            all = all.saturating_add(passes.input.blocks);
+        }
+        if takes_sets(&self.opened, &jobs)? {
             self.opened.check_room(&jobs)?;
             return say(
                 &self.program,
@@ -205,15 +203,14 @@ impl<'a> FolderWork<'a> {
         if self.captures.iter().any(|capture| capture.volume == volume) {
             return Ok(());
         }
-        let passes = self.passes(volume)?;
-        let spool = self
-            .opened
-            .folder
-            .spool(passes.input.name, passes.input.blocks)?;
+        for passes in self.passes(volume)? {
+            let (name, blocks) = (passes.input.name, passes.input.blocks);
+            let spool = self.opened.folder.spool(name, blocks)?;
+            self.captures.push(Capture::new(volume, passes, spool))?;
+        }
         if self.since.is_none() {
             self.since = Instant::now(&self.program.rt).ok();
         }
-        self.captures.push(Capture::new(volume, passes, spool))?;
         Ok(())
     }
 

@@ -13,6 +13,7 @@ use crate::new_store::{blocks_of, new_store, sum_of};
 use crate::opened::{Files, close, take_apart};
 use crate::own_file::{new_folder, parent_of};
 use crate::pair::Pair;
+use crate::parts::{MOST_OF_FILE, Part, blocks_of_part, check_parts, parts_for};
 use crate::program::Program;
 use crate::status::Status;
 use crate::way::Way;
@@ -35,9 +36,21 @@ fn check_pair(
     check_once(program, path, pair, earlier)?;
     let name = pair.name;
     match pair.blocks {
-        Some(blocks) => check_blocks(program, name, blocks),
+        Some(blocks) => check_of_file(program, name, blocks),
         None => Ok(()),
     }
+}
+
+/// That a file may have so many blocks.
+pub fn check_of_file(program: &Program, name: &str, blocks: u32) -> Result<(), Status>
+    ensures some { OnOk result (0 < blocks) }
+{
+    if blocks == 0 || blocks > MOST_OF_FILE {
+        return Err(
+            ended!(*program, Refused; "{name}: blocks: {blocks}, and a file has 1 to {MOST_OF_FILE}"),
+        );
+    }
+    check_parts(program, name, blocks)
 }
 
 /// That a volume may have so many blocks.
@@ -63,6 +76,14 @@ pub fn check_slots(program: &Program, slots: u32) -> Result<(), Status>
     Ok(())
 }
 
+/// That a folder may have so many volumes.
+fn check_count(program: &Program, volumes: usize) -> Result<(), Status> {
+    if volumes > MOST_VOLUMES as usize {
+        return Err(ended!(*program, Refused; "volumes: {volumes}, at most {MOST_VOLUMES}"));
+    }
+    Ok(())
+}
+
 /// What is refused of the words alone.
 fn check_words(program: &Program, path: &str, slots: u32, pairs: &[Pair<'_>]) -> Result<(), Status>
     ensures { OnOk result (slots ≤ MOST_SLOTS) }
@@ -71,39 +92,53 @@ fn check_words(program: &Program, path: &str, slots: u32, pairs: &[Pair<'_>]) ->
         check_pair(program, path, *pair, &pairs[..place])?;
     }
     check_slots(program, slots)?;
-    let volumes = pairs.len();
-    if volumes > MOST_VOLUMES as usize {
-        return Err(ended!(*program, Refused; "volumes: {volumes}, at most {MOST_VOLUMES}"));
-    }
-    Ok(())
+    check_count(program, pairs.len())
 }
 
-/// How many blocks the volume of a pair has: those that were given, or as many as its file needs, with its length.
+/// How many blocks the file of a pair has: those that were given, or as many as it needs, with its length.
 pub fn blocks_for(program: &Program, pair: Pair<'_>, length: u64) -> Result<u32, Status> {
     if let Some(blocks) = pair.blocks {
         return Ok(blocks);
     }
     let blocks = length.saturating_add(8).div_ceil(BLOCK as u64);
-    if blocks <= u64::from(MOST_BLOCKS) {
+    if blocks <= u64::from(MOST_OF_FILE) {
+        check_parts(program, pair.name, blocks as u32)?;
         return Ok(blocks as u32);
     }
-    let (file, most) = (pair.file, u64::from(MOST_BLOCKS) * BLOCK as u64 - 8);
-    Err(
-        ended!(*program, Refused; "{file}: length: {length} bytes, and a volume has at most {most}"),
-    )
+    let (file, most) = (pair.file, u64::from(MOST_OF_FILE) * BLOCK as u64 - 8);
+    Err(ended!(*program, Refused; "{file}: length: {length} bytes, and a file has at most {most}"))
 }
 
-/// Adds the job of a pair, of the new volume of this number.
-fn add_job<'a>(
+/// The file of a pair, opened once for each part that the folder keeps of it. If it has no blocks yet it gets as many as it needs.
+pub fn inputs_of<'a>(program: &Program, pair: Pair<'a>) -> Result<Vec<FileInput<'a>>, Status> {
+    let (mut inputs, mut parts) = (Vec::new(program.alloc()), 1);
+    let mut pair = pair;
+    for number in 0..MOST_VOLUMES {
+        if number >= parts {
+            break;
+        }
+        let mut input = FileInput::open(program, pair.file)?;
+        let blocks = blocks_for(program, pair, input.length())?;
+        input.fit(pair.name, blocks)?;
+        (pair.blocks, parts) = (Some(blocks), parts_for(blocks));
+        let part = Part::of(number as usize, parts as usize);
+        input.take_part(part, blocks_of_part(blocks, number));
+        inputs.push(input)?;
+    }
+    Ok(inputs)
+}
+
+/// Adds the jobs of a pair, of the new volumes behind those of the jobs that there are.
+fn add_jobs<'a>(
     program: &Program,
     pair: Pair<'a>,
-    volume: u32,
     jobs: &mut Vec<Job<'a>>,
 ) -> Result<(), Status> {
-    let mut input = FileInput::open(program, pair.file)?;
-    let blocks = blocks_for(program, pair, input.length())?;
-    input.fit(pair.name, blocks)?;
-    Ok(jobs.push(Job::new(program.alloc(), volume, input)?)?)
+    for input in inputs_of(program, pair)? {
+        let volume = u32::try_from(jobs.len()).unwrap_or(u32::MAX);
+        jobs.push(Job::new(program.alloc(), volume, input)?)?;
+    }
+    check_count(program, jobs.len())
 }
 
 /// Brings all new volumes to their files. No block of zeros is written. The head of the store is answered.
@@ -205,10 +240,8 @@ fn create_by<'a>(
 ) -> Result<(), Status>
     requires { slots ≤ MOST_SLOTS }
 {
-    let mut volume = 0u32;
     for pair in pairs {
-        add_job(program, *pair, volume, jobs)?;
-        volume = volume.saturating_add(1);
+        add_jobs(program, *pair, jobs)?;
     }
     wait_out_all(jobs);
     make_new(program, path, slots, jobs.as_mut_slice())

@@ -2,6 +2,7 @@ ghost use Rattle.std.specs.Prelude.{◌≡◌, ◌<◌, ◌≤◌, None, length,
 ghost use Rattle.vss_names.specs.Faults.{HasCause};
 
 use crate::own_file::is_same;
+use crate::parts::Part;
 use crate::program::Program;
 use crate::progress::Progress;
 use crate::source::Source;
@@ -37,13 +38,14 @@ const TICK: u64 = 12;
 /// The same on a file system that keeps whole seconds, or each second one.
 const COARSE_TICK: u64 = 2000 + TICK;
 
-/// A file that was named, as the blocks of a volume: its bytes, zeros, and its length in the last eight bytes
+/// A file that was named, or a part of it, as the blocks of a volume: its bytes, zeros, and its length in the last eight bytes
 /// (`image_store/specs/FileBytes.antt`). It is read alone, and as long as it was when it was opened.
 #[derive(Drop)]
 pub struct FileInput<'a> {
     pub program: Program,
-    /// The name of the volume that is brought to it.
+    /// The name of the volumes that are brought to it, and which part of it is the one's.
     pub name: &'a str,
+    pub part: Part,
     path: &'a str,
     /// The file and what was found of it, if it is there.
     source: Option<(File, Metadata)>,
@@ -173,6 +175,7 @@ impl<'a> FileInput<'a> {
         Ok(FileInput {
             program: *program,
             name: NONE,
+            part: Part::WHOLE,
             path,
             source,
             blocks: 0,
@@ -210,7 +213,7 @@ impl<'a> FileInput<'a> {
         }
     }
 
-    /// Gives it so many blocks, those of the volume of this name, in which it has to have room with its length.
+    /// Gives it so many blocks, those of the file of this name in the folder, in which it has to have room with its length.
     pub fn fit(&mut self, name: &'a str, blocks: u32) -> Result<(), Status> {
         let room = (u64::from(blocks) * BLOCK as u64).saturating_sub(LENGTH as u64);
         let (path, length) = (self.path, self.length());
@@ -224,7 +227,18 @@ impl<'a> FileInput<'a> {
         Ok(())
     }
 
-    /// How many bytes it had when it was opened.
+    /// Makes it a part of its file, of so many blocks.
+    pub fn take_part(&mut self, part: Part, blocks: u32) {
+        (self.part, self.blocks) = (part, blocks);
+        self.progress = Progress::new(&self.program, "compared", blocks);
+    }
+
+    /// Whether it is zeros alone: a further part of a file that is not there.
+    pub fn is_none(&self) -> bool {
+        self.source.is_none() && self.part.number > 0
+    }
+
+    /// How many bytes the file had when it was opened.
     pub fn length(&self) -> u64 {
         match &self.source {
             Some((_, found)) => found.len(),
@@ -232,11 +246,11 @@ impl<'a> FileInput<'a> {
         }
     }
 
-    /// What the volume has as its length.
+    /// What the volume has as its length. That the file was not there is said in its first part.
     fn length_kept(&self) -> u64 {
         match &self.source {
-            Some((_, found)) => found.len(),
-            None => ABSENT,
+            None if self.part.number == 0 => ABSENT,
+            _ => self.part.length_in(self.length()),
         }
     }
 
@@ -321,15 +335,16 @@ impl<'a> FileInput<'a> {
         }
     }
 
-    /// Reads as much of the block as the file has, and ends it.
+    /// Reads as much of the block as the part of the file has, and ends it.
     fn read_part(&self, index: u32, out: &mut [u8]) -> io::Result<()>
         requires in_range { index < self.now.blocks }
         requires whole { length out.old ≡ BLOCK }
     {
         let place = u64::from(index) * BLOCK as u64;
-        let have = self.length().saturating_sub(place).min(BLOCK as u64) as usize;
+        let length = self.part.length_in(self.length());
+        let have = length.saturating_sub(place).min(BLOCK as u64) as usize;
         if let Some((file, _)) = &self.source {
-            file.read_exact_at(&mut out[..have], place)?;
+            file.read_exact_at(&mut out[..have], self.part.start().saturating_add(place))?;
         }
         end_block(out, have, index == self.blocks - 1, self.length_kept());
         Ok(())

@@ -72,8 +72,8 @@ fn more_slots(folder: &mut Folder, shape: &mut Shape, slots: u32) -> Result<(), 
     let behind = front.saturating_add(had.saturating_sub(first));
     shape.copy_first(&program, first, Some((&area, behind)))?;
     area.sync()?;
-    (shape.rows, shape.slots) = (rows, slots);
-    shape.commit(folder, sums)
+    (shape.rows, shape.slots, shape.sums) = (rows, slots, sums);
+    shape.commit(folder)
 }
 
 /// `grow F SLOTS`: the area gets so many slots.

@@ -6,7 +6,7 @@ use crate::ended::say;
 use crate::file_input::FileInput;
 use crate::folder::Folder;
 use crate::job::sets_of;
-use crate::naming::name_in;
+use crate::naming::{is_part, name_in};
 use crate::opened::Files;
 use crate::program::Program;
 use crate::progress::Progress;
@@ -94,7 +94,9 @@ impl<'a> Report<StoreDevice, FileInput<'a>, Status> for FileReport {
 
     fn say_gone(&self, store: &Files, gone: &[Evicted]) -> Result<(), Status> {
         for one in gone {
-            if one.volume < store.volumes() {
+            if one.volume < store.volumes()
+                && !is_part(store, self.program.alloc(), one.volume)?
+            {
                 let name = name_in(store, one.volume);
                 say(
                     &self.program,

@@ -1,8 +1,9 @@
-//! What a call left that did not end: the file of a volume that was to be added, or was taken away.
+//! What a call left that did not end: the files of volumes that were to be added, or were taken away.
 
 use crate::ended::of_folder;
 use crate::folder::Folder;
 use crate::marker::{Marker, is_volume};
+use crate::parts::{part_name, text_of};
 use crate::program::Program;
 use crate::status::Status;
 use std::io::ErrorKind;
@@ -23,7 +24,26 @@ pub fn remove_file(program: &Program, path: &str) -> Result<(), Status> {
     of_folder(program, path, "could not be removed", gone)
 }
 
-/// Takes the file of the volume of a marker away, if it is none of these volumes, and sees that this lasts.
+/// Takes the files of so many parts of a file away that are none of these volumes. Whether there were any is answered.
+fn remove_parts(
+    folder: &Folder,
+    name: &str,
+    parts: u32,
+    catalog: &Catalog,
+) -> Result<bool, Status> {
+    let mut is_any = false;
+    for number in 0..parts {
+        let part = part_name(folder.program.alloc(), name.as_bytes(), number)?;
+        if !is_volume(catalog, text_of(&part)) {
+            let path = folder.path_of_volume(text_of(&part))?;
+            remove_file(&folder.program, path.as_str())?;
+            is_any = true;
+        }
+    }
+    Ok(is_any)
+}
+
+/// Takes the files of the volumes of a marker away that are none of these volumes, and sees that this lasts.
 pub fn clear_left(
     folder: &Folder,
     marker: Option<&Marker>,
@@ -33,10 +53,7 @@ pub fn clear_left(
         return Ok(());
     };
     match marker.left() {
-        Some(name) if !is_volume(catalog, name) => {
-            remove_file(&folder.program, folder.path_of_volume(name)?.as_str())?;
-            folder.sync()
-        }
+        Some((name, parts)) if remove_parts(folder, name, parts, catalog)? => folder.sync(),
         _ => Ok(()),
     }
 }

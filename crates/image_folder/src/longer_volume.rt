@@ -1,16 +1,20 @@
 //! `grow`: a volume gets more blocks. The length of its file is in its last block, and so are those of its images: each image that has a copy of
 //! the block that was the last gets one of the new last block.
 
-use crate::creating::check_blocks;
+use crate::creating::{check_blocks, check_of_file};
 use crate::ended::say;
+use crate::file_input::{FileInput, NONE};
 use crate::folder::{AREA, Folder};
 use crate::longer::{Longer, tail_of};
+use crate::marker::line_of_parts;
 use crate::opened::Opened;
+use crate::parts::{MOST_OF_FILE, Part, blocks_of_file, blocks_of_part, part_name, parts_for, text_of};
 use crate::program::Program;
-use crate::shape::{Shape, check_in_all};
+use crate::shape::Shape;
 use crate::state::{Row, blocks_in, first_of};
 use crate::status::Status;
 use crate::sum_fault::say_other;
+use crate::volumes::{add_entries, check_count, fill_all};
 use block_data::BlockBuf;
 use image_device::{BlockSum, SumTable};
 use image_order::mark;
@@ -36,7 +40,22 @@ struct Tail {
     tail: u64,
 }
 
+/// A number of parts.
+fn number_in(parts: usize) -> u32 {
+    u32::try_from(parts).unwrap_or(u32::MAX)
+}
+
 impl Shape {
+    /// How many blocks a volume has.
+    fn blocks_of(&self, volume: u32) -> u32 {
+        let catalog = self.head.catalog();
+        if volume < catalog.volumes() {
+            catalog.blocks(volume)
+        } else {
+            0
+        }
+    }
+
     /// What the block ends with that was the last of a volume: the length of its file.
     fn tail_of_volume(&mut self, program: &Program, growth: Growth<'_>) -> Result<u64, Status> {
         let (volume, last) = (growth.volume, growth.was);
@@ -96,31 +115,17 @@ impl Shape {
 }
 
 impl<'a> Growth<'a> {
-    /// That of a volume which gets so many blocks, if it may get them.
-    fn of(
-        program: &Program,
-        shape: &Shape,
-        volume: u32,
-        name: &'a str,
-        blocks: u32,
-    ) -> Result<Growth<'a>, Status> {
+    /// That of a volume which gets so many blocks.
+    fn of(shape: &Shape, volume: u32, name: &'a str, blocks: u32) -> Result<Growth<'a>, Status> {
         let catalog = shape.head.catalog();
         if volume >= catalog.volumes() {
             return Err(Status::DeviceFault);
         }
-        let had = catalog.blocks(volume);
-        check_blocks(program, name, blocks)?;
-        if blocks <= had {
-            return Err(
-                ended!(*program, Refused; "{name}: blocks: {blocks}, and it has {had} already; a volume only grows"),
-            );
-        }
-        check_in_all(program, catalog, blocks - had)?;
         Ok(Growth {
             volume,
             name,
             first: first_of(catalog, volume),
-            was: had.saturating_sub(1),
+            was: catalog.blocks(volume).saturating_sub(1),
             last: blocks.saturating_sub(1),
         })
     }
@@ -141,17 +146,16 @@ impl<'a> Growth<'a> {
         folder: &Folder,
         shape: &Shape,
         sums: &SumTable,
-        tail: u64,
-        tails: &[Tail],
+        tails: &Tails,
     ) -> Result<(), Status> {
         let (program, last) = (&folder.program, self.last);
         let file = Longer::grown(program, folder.path_of_volume(self.name)?, self.blocks())?;
-        file.put_tail(last, tail, sums, self.first.saturating_add(last as usize))?;
+        file.put_tail(last, tails.own, sums, self.first.saturating_add(last as usize))?;
         file.sync()?;
         let all = blocks_in(shape.head.catalog());
         let size = shape.front.saturating_add(shape.slots);
         let area = Longer::grown(program, folder.path_of(AREA)?, size)?;
-        for one in tails {
+        for one in &tails.images {
             let (index, place) = (shape.front.saturating_add(one.slot), one.slot as usize);
             area.put_tail(index, one.tail, sums, all.saturating_add(place))?;
         }
@@ -159,36 +163,110 @@ impl<'a> Growth<'a> {
     }
 }
 
-/// Gives a volume more blocks.
-fn more_blocks(folder: &mut Folder, shape: &mut Shape, growth: Growth<'_>) -> Result<(), Status> {
+/// What a volume that gets more blocks gets behind them: the length of its file, and those of its images.
+#[derive(Drop)]
+struct Tails {
+    own: u64,
+    images: Vec<Tail>,
+}
+
+/// Gives the volume its new size, in memory.
+fn resize(folder: &Folder, shape: &mut Shape, growth: Growth<'_>) -> Result<Tails, Status> {
     let program = folder.program;
-    let tail = shape.tail_of_volume(&program, growth)?;
-    let tails = shape.new_tails(folder, growth)?;
+    let own = shape.tail_of_volume(&program, growth)?;
+    let images = shape.new_tails(folder, growth)?;
     let behind = growth
         .first
         .saturating_add(growth.was as usize)
         .saturating_add(1);
     let more = growth.last.saturating_sub(growth.was) as usize;
-    let sums = Arc::new(program.alloc(), shape.parted_sums(&program, behind, more)?)?;
+    let sums = shape.parted_sums(&program, behind, more)?;
     let (volume, blocks) = (growth.volume, growth.blocks());
     check_blocks(&program, growth.name, blocks)?;
     if volume >= shape.head.catalog().volumes() {
         return Err(Status::DeviceFault);
     }
     shape.head.resize(volume, blocks);
-    mark(folder, "grow\n")?;
-    growth.write(folder, shape, &sums, tail, &tails)?;
-    shape.commit(folder, sums)
+    shape.sums = Arc::new(program.alloc(), sums)?;
+    Ok(Tails { own, images })
 }
 
-/// `grow F NAME=BLOCKS`: a volume gets so many blocks.
-pub fn grow_volume(opened: Opened, name: &str, blocks: u32) -> Result<(), Status> {
-    let (program, volume) = (opened.folder.program, opened.place_of(name)?);
-    let (mut folder, mut shape) = Shape::of(opened)?;
-    let done = match Growth::of(&program, &shape, volume, name, blocks) {
-        Ok(growth) => more_blocks(&mut folder, &mut shape, growth),
-        Err(status) => Err(status),
+/// The further parts of a file that gets so many blocks, behind so many that there are: of zeros.
+fn new_parts<'a>(
+    program: &Program,
+    name: &'a str,
+    had: u32,
+    blocks: u32,
+) -> Result<Vec<FileInput<'a>>, Status> {
+    let (mut inputs, parts) = (Vec::new(program.alloc()), parts_for(blocks));
+    for number in had..parts {
+        let mut input = FileInput::open(program, NONE)?;
+        input.name = name;
+        let part = Part::of(number as usize, parts as usize);
+        input.take_part(part, blocks_of_part(blocks, number));
+        inputs.push(input)?;
+    }
+    Ok(inputs)
+}
+
+/// That a file may have so many blocks, which had so many, and gets these volumes.
+fn check_more(
+    program: &Program,
+    shape: &Shape,
+    name: &str,
+    (had, blocks): (u32, u32),
+    inputs: &[FileInput<'_>],
+) -> Result<(), Status> {
+    check_of_file(program, name, blocks)?;
+    if blocks <= had {
+        return Err(
+            ended!(*program, Refused; "{name}: blocks: {blocks}, and it has {had} already; a volume only grows"),
+        );
+    }
+    check_count(program, shape, inputs.len())
+}
+
+/// Gives a file so many blocks that these volumes keep: its last part grows, and new ones come.
+fn more_blocks(
+    folder: &mut Folder,
+    shape: &mut Shape,
+    name: &str,
+    volumes: &[u32],
+    blocks: u32,
+) -> Result<(), Status> {
+    let (program, alloc) = (folder.program, folder.program.alloc());
+    let (parts, last) = (number_in(volumes.len()), volumes.last().copied().unwrap_or(0));
+    let had = shape.blocks_of(last);
+    let mut inputs = new_parts(&program, name, parts, blocks.min(MOST_OF_FILE))?;
+    let had_in_all = blocks_of_file(volumes.len(), had);
+    check_more(&program, shape, name, (had_in_all, blocks), &inputs)?;
+    let part = part_name(alloc, name.as_bytes(), parts.saturating_sub(1))?;
+    let size = blocks_of_part(blocks, parts.saturating_sub(1));
+    let growth = Growth::of(shape, last, text_of(&part), size)?;
+    let tails = if size > had {
+        Some(resize(folder, shape, growth)?)
+    } else {
+        None
     };
+    let first = add_entries(&program, shape, &inputs)?;
+    let line = if inputs.is_empty() {
+        String::from_str(alloc, "grow\n")?
+    } else {
+        line_of_parts(alloc, "grow", name, volumes.len().saturating_add(inputs.len()))?
+    };
+    mark(folder, line.as_str())?;
+    if let Some(tails) = &tails {
+        growth.write(folder, shape, &shape.sums, tails)?;
+    }
+    fill_all(folder, shape, first, &mut inputs)?;
+    shape.commit(folder)
+}
+
+/// `grow F NAME=BLOCKS`: a file gets so many blocks.
+pub fn grow_volume(opened: Opened, name: &str, blocks: u32) -> Result<(), Status> {
+    let (program, volumes) = (opened.folder.program, opened.parts_of(name)?);
+    let (mut folder, mut shape) = Shape::of(opened)?;
+    let done = more_blocks(&mut folder, &mut shape, name, &volumes, blocks);
     shape.end(&program, done)?;
     say(&program, format_args!("volume {name} blocks {blocks}\n"))
 }

@@ -2,11 +2,13 @@ ghost use Rattle.std.specs.Prelude.{◌<◌, length};
 
 use crate::naming::name_in;
 use crate::opened::Files;
+use crate::pair::number_of;
+use crate::parts::{part_name, text_of};
 use block_data::digest;
 use std::alloc::{AllocError, Global};
 use std::fmt;
 use vss_catalog::Catalog;
-use vss_names::is_name;
+use vss_names::{MOST_BLOCKS, MOST_VOLUMES, OutOfMemory, is_name};
 
 /// The word before the digest in the first line of a marker or a list.
 const DIGEST: &str = "sha256 ";
@@ -16,6 +18,8 @@ const DIGEST: &str = "sha256 ";
 pub struct Marker {
     /// Empty where the marker is not of the form; then each volume is in transit.
     text: String,
+    /// The names of the further parts of the files that it names, a line each.
+    parts: String,
 }
 
 /// The file of a marker, or of a list, with these lines: the digest of them comes first.
@@ -48,12 +52,59 @@ pub fn is_volume(catalog: &Catalog, name: &str) -> bool {
     false
 }
 
-/// The volume that a line adds or takes away.
-fn named_in(line: &str) -> Option<&str> {
-    match line.split_once(' ') {
-        Some(("add" | "remove", name)) if is_name(name.as_bytes()) => Some(name),
-        _ => None,
+/// The blocks of the volume of a name, none if there is none.
+fn blocks_named(catalog: &Catalog, name: &str) -> u32 {
+    for volume in 0..catalog.volumes() {
+        if name_of(catalog, volume) == name {
+            return catalog.blocks(volume);
+        }
     }
+    0
+}
+
+/// Adds a line of the name of each further part of a file.
+fn add_parts(
+    alloc: Global,
+    catalog: &Catalog,
+    name: &str,
+    parts: &mut String,
+) -> Result<(), OutOfMemory> {
+    if blocks_named(catalog, name) < MOST_BLOCKS {
+        return Ok(());
+    }
+    for number in 1..MOST_VOLUMES {
+        let part = part_name(alloc, name.as_bytes(), number)?;
+        if !is_volume(catalog, text_of(&part)) {
+            break;
+        }
+        write!(parts, "{}\n", text_of(&part))?;
+    }
+    Ok(())
+}
+
+/// The file that a line adds, takes away or gives more volumes, and of how many parts: of one if there is no number.
+fn named_in(line: &str) -> Option<(&str, u32)> {
+    let Some(("add" | "remove" | "grow", words)) = line.split_once(' ') else {
+        return None;
+    };
+    let (name, parts) = match words.split_once(' ') {
+        Some((name, parts)) => (name, number_of(parts)?),
+        None => (words, 1),
+    };
+    (is_name(name.as_bytes()) && parts <= MOST_VOLUMES).then_some((name, parts))
+}
+
+/// The line of a call by which so many parts of a file come or go.
+pub fn line_of_parts(
+    alloc: Global,
+    word: &str,
+    name: &str,
+    parts: usize,
+) -> Result<String, AllocError> {
+    if parts == 1 {
+        return format!(in alloc; "{word} {name}\n");
+    }
+    format!(in alloc; "{word} {name} {parts}\n")
 }
 
 /// Whether lines are a call that may leave a marker, and the volumes of the catalog that it has in transit: some, or none for one that leaves
@@ -78,22 +129,27 @@ fn has_form(lines: &str, catalog: &Catalog) -> bool {
 
 impl Marker {
     /// What the bytes of a marker say, in a folder of these volumes.
-    pub fn of(alloc: Global, bytes: &[u8], catalog: &Catalog) -> Result<Marker, AllocError> {
+    pub fn of(alloc: Global, bytes: &[u8], catalog: &Catalog) -> Result<Marker, OutOfMemory> {
         let text = std::str::from_utf8(bytes).unwrap_or("");
         let lines = lines_in(alloc, text)?;
         let lines = if has_form(lines, catalog) { lines } else { "" };
+        let mut parts = String::new(alloc);
+        for name in lines.lines().skip(1) {
+            add_parts(alloc, catalog, name, &mut parts)?;
+        }
         Ok(Marker {
             text: String::from_str(alloc, lines)?,
+            parts,
         })
     }
 
     /// Whether files of the folder may be longer than they count.
     pub fn lets_grow(&self) -> bool {
-        self.text.as_str() == "grow\n"
+        self.text.starts_with("grow")
     }
 
-    /// The volume whose file may be there though it does not count.
-    pub fn left(&self) -> Option<&str> {
+    /// The file of which so many volumes may be there though they do not count.
+    pub fn left(&self) -> Option<(&str, u32)> {
         named_in(self.text.lines().next()?)
     }
 
@@ -106,7 +162,8 @@ impl Marker {
 
     /// Whether those of the volume of a name are.
     pub fn names(&self, name: &str) -> bool {
-        self.text.is_empty() || self.text.lines().skip(1).any(|other| other == name)
+        let mut names = self.text.lines().skip(1).chain(self.parts.lines());
+        self.text.is_empty() || names.any(|other| other == name)
     }
 }
 

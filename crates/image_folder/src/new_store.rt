@@ -8,16 +8,18 @@ use crate::folder::{AREA, Folder};
 use crate::job::Job;
 use crate::opened::Files;
 use crate::own_file::new_file;
+use crate::parts::{part_name, text_of};
 use crate::program::Program;
 use crate::status::Status;
 use block_data::BLOCK;
 use diff_area::{Area, pages_for};
 use image_device::{KeptSums, StoreDevice};
 use image_store::{NewFault, Store};
+use std::alloc::Global;
 use std::fs::File;
 use std::io;
 use volume_device::{Device, FileCall, FileFault};
-use vss_names::{MOST_BLOCKS, MOST_SLOTS, MOST_VOLUMES, Text};
+use vss_names::{MOST_BLOCKS, MOST_SLOTS, MOST_VOLUMES, OutOfMemory, Text};
 
 /// A new file of so many zero blocks, or the call that failed.
 pub fn new_blocks(
@@ -55,9 +57,6 @@ fn new_device(
     }
 }
 
-/// The most blocks of all volumes.
-pub const MOST_IN_ALL: u64 = 131_072;
-
 /// Whether volumes may have so many blocks.
 fn are_volumes(blocks: &[u32]) -> bool
     ensures { IsTrue result → AreVolumes blocks.now }
@@ -77,7 +76,7 @@ pub fn sum_of(blocks: &[u32]) -> u64 {
     sum
 }
 
-/// How many blocks the volumes have, if that is not too many.
+/// How many blocks the volumes have, if these are not too many.
 pub fn blocks_of(program: &Program, jobs: &[Job<'_>]) -> Result<Vec<u32>, Status>
     ensures volumes { IfOk result (λ blocks. AreVolumes blocks.items) }
     ensures blocks { IfOk result (λ blocks. blocks.items ≡ map (λ job. job.input.blocks) jobs.now) }
@@ -86,11 +85,11 @@ pub fn blocks_of(program: &Program, jobs: &[Job<'_>]) -> Result<Vec<u32>, Status
         .iter()
         .map(|job| job.input.blocks)
         .collect(program.alloc())?;
-    let in_all = sum_of(&blocks);
-    if in_all > MOST_IN_ALL || !are_volumes(&blocks) {
-        return Err(ended!(*program, Refused; "blocks: {in_all} in all, at most {MOST_IN_ALL}"));
+    if are_volumes(&blocks) {
+        return Ok(blocks);
     }
-    Ok(blocks)
+    let volumes = blocks.len();
+    Err(ended!(*program, Refused; "volumes: {volumes}, at most {MOST_VOLUMES}"))
 }
 
 /// The new area of volumes of these numbers of blocks.
@@ -108,6 +107,11 @@ fn new_area(folder: &Folder, slots: u32, blocks: &[u32]) -> Result<Area<StoreDev
     }
 }
 
+/// The name of the volume of a job.
+fn name_of(alloc: Global, job: &Job<'_>) -> Result<Text, OutOfMemory> {
+    part_name(alloc, job.input.name.as_bytes(), job.input.part.number)
+}
+
 /// The devices of the volumes, of zeros.
 fn new_devices(folder: &Folder, jobs: &[Job<'_>]) -> Result<Vec<StoreDevice>, Status>
     ensures { IfOk result (λ devices. map ⟦<StoreDevice as Device>⟧.size devices.items ≡ map (λ job. job.input.blocks) jobs.now) }
@@ -115,7 +119,8 @@ fn new_devices(folder: &Folder, jobs: &[Job<'_>]) -> Result<Vec<StoreDevice>, St
     let mut devices = Vec::new(folder.program.alloc());
     let mut first = 0usize;
     for job in jobs {
-        let (path, blocks) = (folder.path_of_volume(job.input.name)?, job.input.blocks);
+        let name = name_of(folder.program.alloc(), job)?;
+        let (path, blocks) = (folder.path_of_volume(text_of(&name))?, job.input.blocks);
         devices.push(new_device(folder, path, blocks, first, 0)?)?;
         first = first.saturating_add(blocks as usize);
     }
@@ -126,7 +131,7 @@ fn new_devices(folder: &Folder, jobs: &[Job<'_>]) -> Result<Vec<StoreDevice>, St
 fn names_of(program: &Program, jobs: &[Job<'_>]) -> Result<Vec<Text>, Status> {
     let mut names = Vec::new(program.alloc());
     for job in jobs {
-        names.push(Text::copy(program.alloc(), job.input.name.as_bytes())?)?;
+        names.push(name_of(program.alloc(), job)?)?;
     }
     Ok(names)
 }

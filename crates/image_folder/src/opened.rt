@@ -9,7 +9,7 @@ use crate::job::{Job, sets_of};
 use crate::jobs::{FileReport, no_jobs};
 use crate::left::clear_left;
 use crate::marker::Marker;
-use crate::naming::name_in;
+use crate::naming::{is_part, name_in};
 use crate::program::Program;
 use crate::state::{State, blocks_in};
 use crate::status::Status;
@@ -175,8 +175,9 @@ impl Opened {
     /// Adds the names of the volumes in transit, but for those of a list, each with a space before it.
     pub fn add_in_transit(&self, but: &[&str], names: &mut String) -> Result<(), Status> {
         for volume in 0..self.store.volumes() {
-            let name = name_in(&self.store, volume);
-            if self.is_in_transit(volume) && !(&*but).contains(&name) {
+            let (name, alloc) = (name_in(&self.store, volume), self.folder.program.alloc());
+            let is_named = (&*but).contains(&name) || is_part(&self.store, alloc, volume)?;
+            if self.is_in_transit(volume) && !is_named {
                 write!(names, " {name}")?;
             }
         }

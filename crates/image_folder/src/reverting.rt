@@ -1,4 +1,4 @@
-//! A volume is brought back to its image of a set: the order of the calls is that of `image_order`. Over files the passes tell nothing.
+//! The volumes of a file are brought back to their images of a set: the order of the calls is that of `image_order`. Over files the passes tell nothing.
 
 use crate::opened::{Files, Opened};
 use crate::program::Program;
@@ -6,12 +6,12 @@ use crate::status::Status;
 use image_order::{Copied, Passes, Reverts, revert_in_order};
 use vss_names::Text;
 
-/// Which volume is brought back to its image of which set.
+/// Which volumes are brought back to their images of which set.
 #[derive(Drop)]
 struct Reverting {
     program: Program,
     set: u32,
-    volume: u32,
+    volumes: Vec<u32>,
 }
 
 impl Passes<Status, Reverting> for Files {
@@ -78,28 +78,32 @@ impl Reverts<Status, Reverting> for Files {
     ghost is_restored = { λ jobs first p. Unit {0} };
 
     fn restore(&mut self, jobs: &Reverting) -> Result<(), Status> {
-        if jobs.volume < self.volumes() && self.revert(jobs.set, jobs.volume).is_ok() {
-            return Ok(());
+        for volume in &jobs.volumes {
+            if *volume >= self.volumes() || self.revert(jobs.set, *volume).is_err() {
+                return Err(Status::DeviceFault);
+            }
         }
-        Err(Status::DeviceFault)
+        Ok(())
     }
 
     fn settle(&mut self, jobs: &Reverting) -> Result<(), Status> {
-        if jobs.volume < self.volumes() && self.flush(jobs.volume).is_ok() {
-            return Ok(());
+        for volume in &jobs.volumes {
+            if *volume >= self.volumes() || self.flush(*volume).is_err() {
+                return Err(Status::DeviceFault);
+            }
         }
-        Err(Status::DeviceFault)
+        Ok(())
     }
 }
 
 impl Opened {
-    /// Brings a volume back to its image of a set, under a marker of these lines. In memory the newer images are gone.
-    pub fn revert(&mut self, lines: &str, set: u32, volume: u32) -> Result<(), Status> {
+    /// Brings volumes back to their images of a set, under a marker of these lines. In memory the newer images are gone.
+    pub fn revert(&mut self, lines: &str, set: u32, volumes: Vec<u32>) -> Result<(), Status> {
         let (program, was_torn) = (self.folder.program, self.is_torn);
         let jobs = Reverting {
             program,
             set,
-            volume,
+            volumes,
         };
         self.is_marked = true;
         revert_in_order(&mut self.folder, &mut self.store, &jobs, lines, was_torn)

@@ -4,7 +4,6 @@
 use crate::folder::Folder;
 use crate::front::{front_of, rows_of};
 use crate::left::remove_file;
-use crate::new_store::MOST_IN_ALL;
 use crate::opened::{Opened, first_fault};
 use crate::program::Program;
 use crate::state::{Row, State, blocks_in};
@@ -16,17 +15,7 @@ use image_store::Head;
 use std::alloc::Global;
 use std::sync::Arc;
 use volume_device::Device;
-use vss_catalog::Catalog;
 use vss_names::Text;
-
-/// That volumes may have so many blocks more.
-pub fn check_in_all(program: &Program, catalog: &Catalog, more: u32) -> Result<(), Status> {
-    let in_all = (blocks_in(catalog) as u64).saturating_add(u64::from(more));
-    if in_all > MOST_IN_ALL {
-        return Err(ended!(*program, Refused; "blocks: {in_all} in all, at most {MOST_IN_ALL}"));
-    }
-    Ok(())
-}
 
 /// A folder that gets other volumes or slots: its volumes, what each slot has, and the files that come, grow or go.
 #[derive(Drop)]
@@ -34,13 +23,13 @@ pub struct Shape {
     pub head: Head,
     pub rows: Vec<Row>,
     pub slots: u32,
-    /// How many blocks were before the slots, and the sums as they were.
+    /// How many blocks were before the slots.
     pub front: u32,
     pub sums: Arc<SumTable, Global>,
     pub devices: Vec<StoreDevice>,
     pub area: StoreDevice,
-    /// The file that goes.
-    pub gone: Option<String>,
+    /// The files that go.
+    pub gone: Vec<String>,
 }
 
 /// What a shape begins with: the state, what each slot has, and the sums.
@@ -58,6 +47,7 @@ impl Shape {
     /// A folder as it is, which was opened to be written, and in which no volume is in transit.
     pub fn of(opened: Opened) -> Result<(Folder, Shape), Status> {
         let (state, rows, sums) = begun_of(&opened)?;
+        let alloc = opened.folder.program.alloc();
         let (slots, front) = (state.slots(), state.front_blocks);
         let State { head, .. } = state;
         let Opened { folder, store, .. } = opened;
@@ -72,7 +62,7 @@ impl Shape {
                 sums,
                 devices,
                 area,
-                gone: None,
+                gone: Vec::new(alloc),
             },
         ))
     }
@@ -106,15 +96,11 @@ impl Shape {
         Ok(sums)
     }
 
-    /// Commits what the folder has become, with these sums, under the marker that is there. Its files were made.
-    pub fn commit(
-        &mut self,
-        folder: &mut Folder,
-        sums: Arc<SumTable, Global>,
-    ) -> Result<(), Status> {
+    /// Commits what the folder has become under the marker that is there. Its files were made.
+    pub fn commit(&mut self, folder: &mut Folder) -> Result<(), Status> {
         let program = folder.program;
         let front = front_of(program.alloc(), self.head.catalog(), &self.rows)?;
-        (folder.front, folder.sums) = (Some(front), Some(sums));
+        (folder.front, folder.sums) = (Some(front), Some(Arc::try_clone(&self.sums)?));
         commit(folder, self, &program)?;
         end_in_order(folder, self, &program)
     }
@@ -177,12 +163,12 @@ impl Passes<Status, Program> for Shape {
         Ok(())
     }
 
-    /// Takes the file away that goes.
+    /// Takes the files away that go.
     fn finish(&mut self, jobs: &Program) -> Result<(), Status> {
-        match &self.gone {
-            Some(path) => remove_file(jobs, path.as_str()),
-            None => Ok(()),
+        for path in &self.gone {
+            remove_file(jobs, path.as_str())?;
         }
+        Ok(())
     }
 
     ghost held_open = { λ first now h held. held };

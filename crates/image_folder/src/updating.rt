@@ -1,14 +1,14 @@
 //! Volumes are brought to files: the blocks that differ are found, and then `image_order` has the order of the calls.
 
-ghost use Rattle.std.specs.Prelude.{◌<◌, length};
-
 use crate::file_input::FileInput;
 use crate::folder::{AREA, DATES, STATE, TOGETHER};
 use crate::job::{Job, before_try, brought_of, check_all, compare, say_changed, wait_out_all};
 use crate::naming::{check_once, name_in};
 use crate::opened::Opened;
 use crate::pair::Pair;
+use crate::parts::{Part, blocks_of_file};
 use crate::status::Status;
+use crate::together::Brought;
 
 /// Whether this is a file of the folder.
 pub fn is_own(opened: &Opened, input: &FileInput<'_>) -> Result<bool, Status> {
@@ -26,36 +26,58 @@ pub fn is_own(opened: &Opened, input: &FileInput<'_>) -> Result<bool, Status> {
     )
 }
 
-/// That the file of a pair is none of the folder, and has room in the volume.
-fn fit<'a>(
-    opened: &Opened,
-    pair: Pair<'a>,
-    volume: u32,
-    input: &mut FileInput<'a>,
-) -> Result<(), Status>
-    requires { volume < length opened.now.store.group.area.volumes }
-{
+/// That the file that is opened for the first part of a file of the folder is none of the folder itself.
+pub fn check_own(opened: &Opened, file: &str, input: &FileInput<'_>) -> Result<(), Status> {
     if is_own(opened, input)? {
-        return Err(
-            ended!(opened.folder.program, Refused; "{}: is a file of {}", pair.file, opened.folder.path),
-        );
+        let folder = opened.folder.path.as_str();
+        return Err(ended!(opened.folder.program, Refused; "{file}: is a file of {folder}"));
     }
-    input.fit(pair.name, opened.store.blocks(volume))
+    Ok(())
 }
 
-/// Adds the job of a pair.
-fn add_job<'a>(opened: &Opened, pair: Pair<'a>, jobs: &mut Vec<Job<'a>>) -> Result<(), Status> {
-    let volume = opened.place_of(pair.name)?;
-    let mut input = FileInput::open(&opened.folder.program, pair.file)?;
-    fit(opened, pair, volume, &mut input)?;
-    Ok(jobs.push(Job::new(opened.folder.program.alloc(), volume, input)?)?)
+/// How many blocks a file has that these volumes keep.
+fn blocks_in_all(opened: &Opened, volumes: &[u32]) -> u32 {
+    match volumes.last() {
+        Some(last) if *last < opened.store.volumes() => {
+            blocks_of_file(volumes.len(), opened.store.blocks(*last))
+        }
+        _ => 0,
+    }
+}
+
+/// Adds the jobs of the volumes of a name, which are brought to a file: one of each, which reads its part. A file that is not there may be missing.
+pub fn add_jobs<'a>(
+    opened: &Opened,
+    name: &'a str,
+    file: &'a str,
+    may_lack: bool,
+    jobs: &mut Vec<Job<'a>>,
+) -> Result<(), Status> {
+    let (program, volumes) = (opened.folder.program, opened.parts_of(name)?);
+    for (number, volume) in volumes.iter().enumerate() {
+        let mut input = if may_lack {
+            FileInput::open_or_none(&program, file)?
+        } else {
+            FileInput::open(&program, file)?
+        };
+        if number == 0 {
+            check_own(opened, file, &input)?;
+        }
+        input.fit(name, blocks_in_all(opened, &volumes))?;
+        if *volume < opened.store.volumes() {
+            let part = Part::of(number, volumes.len());
+            input.take_part(part, opened.store.blocks(*volume));
+        }
+        jobs.push(Job::new(program.alloc(), *volume, input)?)?;
+    }
+    Ok(())
 }
 
 /// The lines of the marker, with the names of the volumes.
 fn lines_of(opened: &Opened, jobs: &[Job<'_>]) -> Result<String, Status> {
     let mut text = String::from_str(opened.folder.program.alloc(), "update\n")?;
-    for job in jobs {
-        write!(text, "{}\n", job.input.name)?;
+    for Brought { name, .. } in &brought_of(opened.folder.program.alloc(), jobs)? {
+        write!(text, "{name}\n")?;
     }
     Ok(text)
 }
@@ -88,6 +110,18 @@ fn flush_all(opened: &mut Opened, jobs: &[Job<'_>]) -> Result<(), Status> {
     opened.folder.sync()
 }
 
+/// How many blocks of the volumes of a name were written by jobs, and copied.
+fn counts_of(jobs: &[Job<'_>], name: &str) -> (u32, u32) {
+    let (mut written, mut copied) = (0u32, 0u32);
+    for job in jobs {
+        if job.input.name == name {
+            written = written.saturating_add(job.written);
+            copied = copied.saturating_add(job.copied);
+        }
+    }
+    (written, copied)
+}
+
 /// All passes over the volumes of jobs, and the lines of what was written and copied.
 pub fn update_by(opened: &mut Opened, jobs: &mut Vec<Job<'_>>) -> Result<(), Status> {
     let mut is_changed = opened.marker.is_some() || opened.is_marked;
@@ -102,8 +136,9 @@ pub fn update_by(opened: &mut Opened, jobs: &mut Vec<Job<'_>>) -> Result<(), Sta
     } else {
         flush_all(opened, jobs)?;
     }
-    for job in jobs.iter() {
-        let (name, written, copied) = (job.input.name, job.written, job.copied);
+    for job in jobs.iter().filter(|job| job.input.part.number == 0) {
+        let name = job.input.name;
+        let (written, copied) = counts_of(jobs, name);
         write!(opened.text, "{name} written {written} copied {copied}\n")?;
     }
     Ok(())
@@ -116,7 +151,7 @@ fn update_pairs<'a>(
     jobs: &mut Vec<Job<'a>>,
 ) -> Result<(), Status> {
     for pair in pairs {
-        add_job(opened, *pair, jobs)?;
+        add_jobs(opened, pair.name, pair.file, false, jobs)?;
     }
     wait_out_all(jobs);
     update_by(opened, jobs)

@@ -1,6 +1,6 @@
-//! `add` and `remove`: a folder gets a volume, or one goes with its images.
+//! `add` and `remove`: a folder gets the volumes of a file, or those of one go with their images.
 
-use crate::creating::{blocks_for, check_blocks};
+use crate::creating::{check_blocks, check_of_file, inputs_of};
 use crate::ended::say;
 use crate::file_input::FileInput;
 use crate::folder::Folder;
@@ -8,14 +8,16 @@ use crate::front::rows_without;
 use crate::job::before_try;
 use crate::left::remove_in_silence;
 use crate::longer::Longer;
+use crate::marker::line_of_parts;
 use crate::naming::may_name;
 use crate::opened::{Opened, open};
 use crate::pair::Pair;
+use crate::parts::{blocks_of_file, part_name, text_of};
 use crate::program::Program;
-use crate::shape::{Shape, check_in_all};
+use crate::shape::Shape;
 use crate::state::{blocks_in, first_of};
 use crate::status::Status;
-use crate::updating::is_own;
+use crate::updating::check_own;
 use crate::way::Way;
 use block_data::BlockBuf;
 use image_device::{BlockSum, SumTable};
@@ -25,8 +27,8 @@ use std::sync::Arc;
 use volume_device::Device;
 use vss_names::{MOST_VOLUMES, is_name};
 
-/// The file of a pair, if a volume of its name may be added.
-fn input_of<'a>(opened: &Opened, pair: Pair<'a>) -> Result<FileInput<'a>, Status> {
+/// That a file of the name of a pair may be added.
+fn check_new(opened: &Opened, pair: Pair<'_>) -> Result<(), Status> {
     let (program, path, name) = (
         opened.folder.program,
         opened.folder.path.as_str(),
@@ -38,32 +40,41 @@ fn input_of<'a>(opened: &Opened, pair: Pair<'a>) -> Result<FileInput<'a>, Status
             ended!(program, Refused; "{path}: volume {name}: is there already; ./images update brings it to a file"),
         );
     }
-    let input = FileInput::open(&program, pair.file)?;
-    if is_own(opened, &input)? {
-        return Err(ended!(program, Refused; "{}: is a file of {path}", pair.file));
-    }
-    Ok(input)
+    check_own(opened, pair.file, &FileInput::open(&program, pair.file)?)
 }
 
-/// How many blocks the new volume of a pair has, if there may be one more of these.
-fn new_blocks_for(
+/// The new volumes of a pair, if there may be these too.
+fn new_inputs<'a>(
     program: &Program,
     shape: &Shape,
-    pair: Pair<'_>,
-    length: u64,
-) -> Result<u32, Status> {
+    pair: Pair<'a>,
+) -> Result<Vec<FileInput<'a>>, Status> {
     if let Some(blocks) = pair.blocks {
-        check_blocks(program, pair.name, blocks)?;
+        check_of_file(program, pair.name, blocks)?;
     }
-    let blocks = blocks_for(program, pair, length)?;
-    check_in_all(program, shape.head.catalog(), blocks)?;
+    let inputs = inputs_of(program, pair)?;
+    check_count(program, shape, inputs.len())?;
+    Ok(inputs)
+}
+
+/// How many blocks new volumes have.
+fn blocks_of_all(inputs: &[FileInput<'_>]) -> u32 {
+    let mut blocks = 0u32;
+    for input in inputs {
+        blocks = blocks.saturating_add(input.blocks);
+    }
+    blocks
+}
+
+/// That there may be so many volumes more.
+pub fn check_count(program: &Program, shape: &Shape, more: usize) -> Result<(), Status> {
     let volumes = shape.head.catalog().volumes();
-    if volumes >= MOST_VOLUMES {
+    if (volumes as usize).saturating_add(more) > MOST_VOLUMES as usize {
         return Err(
-            ended!(*program, Refused; "volumes: {volumes} are there, at most {MOST_VOLUMES}"),
+            ended!(*program, Refused; "volumes: {volumes} are there and {more} would come, at most {MOST_VOLUMES}"),
         );
     }
-    Ok(blocks)
+    Ok(())
 }
 
 /// Adds the entry of a volume of so many blocks.
@@ -98,7 +109,7 @@ fn copy_block(
     file.put(index, block.bytes())
 }
 
-/// Makes the file of a new volume of a file that was named. What is read of it is of one moment.
+/// Makes the file of a new volume of a file that was named, or of none.
 fn fill(
     input: &mut FileInput<'_>,
     path: String,
@@ -109,58 +120,118 @@ fn fill(
     let file = Longer::new(&program, path, blocks)?;
     let mut block = BlockBuf::zeroed(program.alloc())?;
     for index in 0..blocks {
+        if input.is_none() {
+            break;
+        }
         let place = first.saturating_add(index as usize);
         copy_block(input, &file, index, &mut block, (sums, place))?;
     }
     input.end(None, "")?;
-    file.sync()?;
-    input.check()
+    file.sync()
 }
 
-/// Adds the volume of a pair, and brings it to its file. If that fails its own file goes.
-fn add_volume<'a>(
+/// The path of the file of the volume of an input.
+fn path_of(folder: &Folder, input: &FileInput<'_>) -> Result<String, Status> {
+    let name = part_name(folder.program.alloc(), input.name.as_bytes(), input.part.number)?;
+    Ok(folder.path_of_volume(text_of(&name))?)
+}
+
+/// Adds the entries and the sums of new volumes. How many blocks the volumes before them have is answered.
+pub fn add_entries(
+    program: &Program,
+    shape: &mut Shape,
+    inputs: &[FileInput<'_>],
+) -> Result<usize, Status> {
+    let first = blocks_in(shape.head.catalog());
+    let sums = shape.parted_sums(program, first, blocks_of_all(inputs) as usize)?;
+    for input in inputs {
+        let name = part_name(program.alloc(), input.name.as_bytes(), input.part.number)?;
+        add_entry(program, shape, text_of(&name), input.blocks)?;
+    }
+    shape.sums = Arc::new(program.alloc(), sums)?;
+    Ok(first)
+}
+
+/// Makes the files of new volumes. What is read is of one moment.
+pub fn fill_all(
+    folder: &Folder,
+    shape: &Shape,
+    first: usize,
+    inputs: &mut Vec<FileInput<'_>>,
+) -> Result<(), Status> {
+    let mut first = first;
+    for input in inputs.iter_mut() {
+        let path = path_of(folder, input)?;
+        fill(input, path, &shape.sums, first)?;
+        first = first.saturating_add(input.blocks as usize);
+    }
+    for input in inputs.iter_mut() {
+        input.check()?;
+    }
+    Ok(())
+}
+
+/// Takes the files of new volumes away, and the marker if none is left.
+pub fn unfill(folder: &mut Folder, inputs: &[FileInput<'_>]) {
+    for input in inputs {
+        match path_of(folder, input) {
+            Ok(path) if remove_in_silence(&folder.program, path.as_str()).is_ok() => {}
+            _ => return,
+        }
+    }
+    folder.unmark_in_silence();
+}
+
+/// Adds the volumes of a name, and brings them to their file. If that fails their own files go.
+fn add_volumes(
     folder: &mut Folder,
     shape: &mut Shape,
-    pair: Pair<'a>,
-    input: &mut FileInput<'a>,
+    name: &str,
+    inputs: &mut Vec<FileInput<'_>>,
 ) -> Result<(), Status> {
-    let (program, alloc, name) = (folder.program, folder.program.alloc(), pair.name);
-    let blocks = new_blocks_for(&program, shape, pair, input.length())?;
-    input.fit(name, blocks)?;
-    input.wait_out();
-    let first = blocks_in(shape.head.catalog());
-    let sums = shape.parted_sums(&program, first, blocks as usize)?;
-    let sums = Arc::new(alloc, sums)?;
-    add_entry(&program, shape, name, blocks)?;
-    folder.note_together(&[input.brought()])?;
-    let line = format!(in alloc; "add {name}\n")?;
+    let (program, alloc) = (folder.program, folder.program.alloc());
+    for input in inputs.iter() {
+        input.wait_out();
+    }
+    let first = add_entries(&program, shape, inputs)?;
+    if let Some(input) = inputs.first() {
+        folder.note_together(&[input.brought()])?;
+    }
+    let line = line_of_parts(alloc, "add", name, inputs.len())?;
     mark(folder, line.as_str())?;
-    let path = folder.path_of_volume(name)?;
-    let done = fill(input, path.clone()?, &sums, first);
+    let done = fill_all(folder, shape, first, inputs);
     if done.is_ok() {
-        return shape.commit(folder, sums);
+        return shape.commit(folder);
     }
-    if remove_in_silence(&program, path.as_str()).is_ok() {
-        folder.unmark_in_silence();
-    }
+    unfill(folder, inputs);
     done
 }
 
-/// Tries to add the volume of a pair. At the last time it is said if its file changed. How many blocks the volume has is answered.
+/// Tries to add the file of a pair. At the last time it is said if the file changed. How many blocks it has is answered.
 fn add_once(
     program: &Program,
     opened: Opened,
     pair: Pair<'_>,
     is_last: bool,
 ) -> Result<u32, Status> {
-    let mut input = input_of(&opened, pair)?;
+    check_new(&opened, pair)?;
     let (mut folder, mut shape) = Shape::of(opened)?;
-    let done = add_volume(&mut folder, &mut shape, pair, &mut input);
+    let mut inputs = Vec::new(program.alloc());
+    let done = match new_inputs(program, &shape, pair) {
+        Ok(new) => {
+            inputs = new;
+            add_volumes(&mut folder, &mut shape, pair.name, &mut inputs)
+        }
+        Err(status) => Err(status),
+    };
     if is_last {
-        input.say_changed("");
+        for input in &inputs {
+            input.say_changed("");
+        }
     }
     shape.end(program, done)?;
-    Ok(input.blocks)
+    let last = inputs.last().map(|input| input.blocks).unwrap_or(0);
+    Ok(blocks_of_file(inputs.len(), last))
 }
 
 /// `add F NAME=FILE`: a folder gets a volume for a file. While the file changes it is tried so often.
@@ -187,20 +258,10 @@ pub fn add(
 }
 
 /// Takes a volume away with its images.
-fn take_away(
-    folder: &mut Folder,
-    shape: &mut Shape,
-    volume: u32,
-    name: &str,
-) -> Result<(), Status> {
-    let (program, alloc, catalog) = (folder.program, folder.program.alloc(), shape.head.catalog());
-    if volume >= catalog.volumes() {
+fn take_one(program: &Program, shape: &mut Shape, volume: u32) -> Result<(), Status> {
+    let (alloc, catalog) = (program.alloc(), shape.head.catalog());
+    if volume >= catalog.volumes() || catalog.volumes() < 2 {
         return Err(Status::DeviceFault);
-    }
-    if catalog.volumes() < 2 {
-        return Err(
-            ended!(program, Refused; "{}: volume {name}: is the only one; a folder has one at least", folder.path),
-        );
     }
     let (first, blocks) = (first_of(catalog, volume), catalog.blocks(volume) as usize);
     let all = blocks_in(catalog).saturating_add(shape.slots as usize);
@@ -210,18 +271,42 @@ fn take_away(
     sums.take_from(&shape.sums, 0, 0, first);
     sums.take_from(&shape.sums, behind, first, others.saturating_sub(first));
     shape.rows = rows_without(alloc, &shape.rows, volume)?;
-    shape.gone = Some(folder.path_of_volume(name)?);
-    let line = format!(in alloc; "remove {name}\n")?;
-    mark(folder, line.as_str())?;
-    shape.commit(folder, Arc::new(alloc, sums)?)
+    shape.sums = Arc::new(alloc, sums)?;
+    Ok(())
 }
 
-/// `remove F NAME`: a volume goes, and its images.
+/// Takes the volumes of a name away with their images, which are given by falling numbers.
+fn take_away(
+    folder: &mut Folder,
+    shape: &mut Shape,
+    volumes: &[u32],
+    name: &str,
+) -> Result<(), Status> {
+    let (program, alloc) = (folder.program, folder.program.alloc());
+    if shape.head.catalog().volumes() as usize <= volumes.len() {
+        return Err(
+            ended!(program, Refused; "{}: volume {name}: is the only one; a folder has one at least", folder.path),
+        );
+    }
+    for (number, volume) in volumes.iter().enumerate() {
+        take_one(&program, shape, *volume)?;
+        let part = part_name(alloc, name.as_bytes(), u32::try_from(number).unwrap_or(u32::MAX))?;
+        shape.gone.push(folder.path_of_volume(text_of(&part))?)?;
+    }
+    let line = line_of_parts(alloc, "remove", name, volumes.len())?;
+    mark(folder, line.as_str())?;
+    shape.commit(folder)
+}
+
+/// `remove F NAME`: the volumes of a name go, and their images.
 pub fn remove(opened: Opened, name: &str) -> Result<(), Status> {
     let (program, volume) = (opened.folder.program, opened.place_of(name)?);
     let images = opened.store.images(volume).len();
+    let mut volumes = opened.parts_of(name)?;
+    volumes.sort()?;
+    volumes.reverse();
     let (mut folder, mut shape) = Shape::of(opened)?;
-    let done = take_away(&mut folder, &mut shape, volume, name);
+    let done = take_away(&mut folder, &mut shape, &volumes, name);
     shape.end(&program, done)?;
     say(&program, format_args!("removed {name}: {images}\n"))
 }

@@ -3,8 +3,8 @@
 ghost use Rattle.std.specs.Prelude.{◌≡◌, ◌<◌, length};
 
 use crate::dated::{Sizes, sizes_of};
-use crate::list::{length_of, said_if_lost, unsettled};
-use image_folder::{Opened, Status, dated_in, name_in, sets_of, which_at};
+use crate::list::{length_of_all, said_if_lost, size_of, unsettled};
+use image_folder::{Opened, Status, dated_in, is_part, name_in, sets_of, which_at};
 use image_store::Which;
 use serde_json::{Value, json};
 use std::alloc::{AllocError, Global};
@@ -78,7 +78,7 @@ fn length_or_none(
     if unsettled(opened, volume, which).is_some() {
         return Ok(None);
     }
-    match length_of(opened, volume, which) {
+    match length_of_all(opened, volume, which) {
         Err(Status::DeviceFault) => {
             *done = Err(Status::DeviceFault);
             Ok(None)
@@ -100,7 +100,7 @@ fn add_image(
 {
     let length = length_or_none(opened, volume, which, done)?;
     if let Which::Of(set) = which {
-        let used = opened.store.used_by(volume, set).unwrap_or(0);
+        let used = size_of(opened, volume, which)?;
         let alloc = opened.folder.program.alloc();
         images.push(image_value(alloc, set, length, used)?)?;
     }
@@ -138,7 +138,7 @@ fn add_volume(
     let mut images = Vec::new(alloc);
     let length = length_or_none(opened, volume, Which::Now, done)?;
     add_images(opened, volume, &mut images, done)?;
-    let (name, blocks) = (name_in(&opened.store, volume), opened.store.blocks(volume));
+    let (name, blocks) = (name_in(&opened.store, volume), size_of(opened, volume, Which::Now)?);
     let is_in_transit = opened.is_in_transit(volume);
     volumes.push(volume_value(alloc, name, blocks, length, is_in_transit, images)?)?;
     Ok(())
@@ -148,7 +148,9 @@ fn add_volume(
 fn volumes_of(opened: &mut Opened, done: &mut Result<(), Status>) -> Result<Vec<Value>, Status> {
     let mut volumes = Vec::new(opened.folder.program.alloc());
     for volume in 0..opened.store.volumes() {
-        add_volume(opened, volume, &mut volumes, done)?;
+        if !is_part(&opened.store, opened.folder.program.alloc(), volume)? {
+            add_volume(opened, volume, &mut volumes, done)?;
+        }
     }
     Ok(volumes)
 }

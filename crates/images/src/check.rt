@@ -3,7 +3,7 @@
 ghost use Rattle.std.specs.Prelude.{◌≡◌, ◌<◌, length};
 
 use crate::list::length_of;
-use image_folder::{Opened, Status, name_in, say, which_at};
+use image_folder::{Opened, Status, is_part, name_in, say, which_at};
 use image_store::Which;
 
 /// Whether a volume, if it is not in transit, or its image says a length that it has room for; if not, that was printed.
@@ -37,7 +37,8 @@ fn check_volume(opened: &mut Opened, volume: u32) -> Result<bool, Status>
 /// Prints the volumes that are in transit.
 fn say_volumes(opened: &Opened) -> Result<(), Status> {
     for volume in 0..opened.store.volumes() {
-        if opened.is_in_transit(volume) {
+        let is_further = is_part(&opened.store, opened.folder.program.alloc(), volume)?;
+        if opened.is_in_transit(volume) && !is_further {
             let name = name_in(&opened.store, volume);
             say(&opened.folder.program, format_args!("{name}: in transit\n"))?;
         }
@@ -56,11 +57,14 @@ fn say_unclean(opened: &Opened, names: &str) -> Result<(), Status> {
 /// Prints the line of a folder that is whole.
 fn say_whole(opened: &Opened) -> Result<(), Status> {
     let store = &opened.store;
-    let mut images = 0usize;
+    let (mut volumes, mut images) = (0u32, 0usize);
     for volume in 0..store.volumes() {
-        images = images.saturating_add(store.images(volume).len());
+        if !is_part(store, opened.folder.program.alloc(), volume)? {
+            volumes = volumes.saturating_add(1);
+            images = images.saturating_add(store.images(volume).len());
+        }
     }
-    let (volumes, used, slots) = (store.volumes(), store.used_all(), store.slots());
+    let (used, slots) = (store.used_all(), store.slots());
     let line = format_args!("whole: {volumes} volumes, {images} images, {used} of {slots} slots\n");
     say(&opened.folder.program, line)
 }

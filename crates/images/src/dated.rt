@@ -2,10 +2,11 @@
 
 ghost use Rattle.std.specs.Prelude.{◌<◌, length};
 
-use image_folder::{Files, Opened, Status, dated_in, sets_of, written_between};
+use image_folder::{Files, Opened, Status, dated_in, is_part, sets_of, written_between};
 use image_store::Which;
 use jiff::Timestamp;
 use std::alloc::{AllocError, Global};
+use vss_names::OutOfMemory;
 
 /// What a set takes.
 #[derive(Clone, Copy)]
@@ -43,7 +44,7 @@ fn exclusive_on(
 }
 
 /// What a set takes.
-pub fn sizes_of(store: &Files, alloc: Global, set: u32) -> Result<Sizes, AllocError> {
+pub fn sizes_of(store: &Files, alloc: Global, set: u32) -> Result<Sizes, OutOfMemory> {
     let (mut images, mut used, mut exclusive) = (0u32, 0u32, 0u32);
     for volume in 0..store.volumes() {
         let place = store.images(volume).iter().position(|image| *image == set);
@@ -51,7 +52,7 @@ pub fn sizes_of(store: &Files, alloc: Global, set: u32) -> Result<Sizes, AllocEr
             continue;
         };
         let own = exclusive_on(store, alloc, volume, place, slots)?;
-        images = images.saturating_add(1);
+        images = images.saturating_add(u32::from(!is_part(store, alloc, volume)?));
         used = used.saturating_add(slots);
         exclusive = exclusive.saturating_add(own);
     }

@@ -4,10 +4,11 @@ ghost use Rattle.std.specs.Prelude.{◌<◌, length};
 
 use crate::as_json::add_value;
 use crate::sets::no_image;
-use image_folder::{Files, Opened, Status, name_in, sets_of, written_between};
+use image_folder::{Files, Opened, Status, is_part, name_in, parts_in, sets_of, written_between};
 use image_store::Which;
 use serde_json::{Value, json};
 use std::alloc::{AllocError, Global};
+use vss_names::OutOfMemory;
 
 /// A set, and another one or the present.
 #[derive(Clone, Copy)]
@@ -41,20 +42,49 @@ fn runs_of(alloc: Global, marks: &[bool]) -> Result<Vec<(usize, usize)>, AllocEr
     Ok(runs)
 }
 
-/// The blocks of a volume that were written.
+/// Which blocks of a part of a file were written: all, if one of the sets is from before there was this part.
+fn marks_of(
+    store: &Files,
+    alloc: Global,
+    part: u32,
+    span: Span,
+) -> Result<Vec<bool>, AllocError>
+    requires { part < length store.now.group.area.volumes }
+{
+    let images = store.images(part);
+    let (other, has_other) = match span.other {
+        Some(other) => (Which::Of(other), images.contains(&other)),
+        None => (Which::Now, true),
+    };
+    if has_other && images.contains(&span.set) {
+        return written_between(store, alloc, part, span.set, other);
+    }
+    vec![in alloc; true; store.blocks(part) as usize]
+}
+
+/// The blocks of a file that were written. The last one has its length: it counts as written if the last block of a part was.
 fn written_in(
     store: &Files,
     alloc: Global,
     volume: u32,
     span: Span,
-) -> Result<Difference, AllocError>
+) -> Result<Difference, OutOfMemory>
     requires { volume < length store.now.group.area.volumes }
 {
-    let other = match span.other {
-        Some(other) => Which::Of(other),
-        None => Which::Now,
-    };
-    let marks = written_between(store, alloc, volume, span.set, other)?;
+    let (mut marks, mut has_length) = (Vec::new(alloc), false);
+    let parts = parts_in(store, alloc, volume)?;
+    for (place, part) in parts.iter().enumerate() {
+        if *part < store.volumes() {
+            let mut more = marks_of(store, alloc, *part, span)?;
+            if place.saturating_add(1) < parts.len() {
+                has_length |= more.pop().unwrap_or(false);
+            }
+            marks.extend_from_slice(&more)?;
+        }
+    }
+    if let Some(last) = marks.last_mut() {
+        *last |= has_length;
+    }
     let count = marks.iter().filter(|is_written| **is_written).count();
     let runs = runs_of(alloc, &marks)?;
     Ok(Difference::Written { count, runs })
@@ -66,7 +96,7 @@ fn difference_of(
     alloc: Global,
     volume: u32,
     span: Span,
-) -> Result<Option<Difference>, AllocError>
+) -> Result<Option<Difference>, OutOfMemory>
     requires { volume < length store.now.group.area.volumes }
 {
     let images = store.images(volume);
@@ -119,7 +149,7 @@ fn add_volumes(
 ) -> Result<(), Status> {
     let (alloc, store) = (opened.folder.program.alloc(), &opened.store);
     for volume in 0..store.volumes() {
-        if only.unwrap_or(volume) != volume {
+        if only.unwrap_or(volume) != volume || is_part(store, alloc, volume)? {
             continue;
         }
         let Some(difference) = difference_of(store, alloc, volume, span)? else {

@@ -1,26 +1,34 @@
 //! `update --dry-run`: what an update would write and copy, and which sets would go for it. Nothing changes.
 
 use image_folder::{
-    FileInput, Job, Opened, Pair, Status, check_once, compare, ended, goes_up_to, is_own, sets_of,
-    want_of,
+    Job, Opened, Pair, Status, add_jobs, check_once, compare, goes_up_to, sets_of, want_of,
 };
 
-/// The job of a pair, which was compared.
-fn compared<'a>(opened: &mut Opened, pair: Pair<'a>) -> Result<Job<'a>, Status> {
-    let (program, volume) = (opened.folder.program, opened.place_of(pair.name)?);
-    let mut input = FileInput::open(&program, pair.file)?;
-    if is_own(opened, &input)? {
-        return Err(ended!(program, Refused; "{}: is a file of {}", pair.file, opened.folder.path));
+/// Compares the volumes of a pair, whose jobs are none yet.
+fn compare_all<'a>(
+    opened: &mut Opened,
+    pair: Pair<'a>,
+    jobs: &mut Vec<Job<'a>>,
+) -> Result<(), Status> {
+    add_jobs(opened, pair.name, pair.file, false, jobs)?;
+    for job in jobs.iter_mut() {
+        compare(job, &mut opened.store)?;
     }
-    input.fit(pair.name, opened.store.blocks(volume))?;
-    let mut job = Job::new(program.alloc(), volume, input)?;
-    let mut done = compare(&mut job, &mut opened.store);
-    if done.is_ok() {
-        done = job.input.check();
+    for job in jobs.iter_mut() {
+        job.input.check()?;
     }
-    job.input.say_changed("");
+    Ok(())
+}
+
+/// The jobs of the volumes of a pair, which were compared.
+fn compared<'a>(opened: &mut Opened, pair: Pair<'a>) -> Result<Vec<Job<'a>>, Status> {
+    let mut jobs = Vec::new(opened.folder.program.alloc());
+    let done = compare_all(opened, pair, &mut jobs);
+    for job in &jobs {
+        job.input.say_changed("");
+    }
     done?;
-    Ok(job)
+    Ok(jobs)
 }
 
 /// `update --dry-run F NAME=FILE ..`: what it would write and copy, how many slots that needs, and which sets would go.
@@ -35,12 +43,15 @@ pub fn forecast(opened: &mut Opened, pairs: &[Pair<'_>]) -> Result<(), Status> {
             *pair,
             &pairs[..place],
         )?;
-        let job = compared(opened, *pair)?;
-        let want = want_of(&opened.store, program.alloc(), &job)?;
-        let (name, written, copied) = (pair.name, job.written, want.copied);
+        let (name, mut written, mut copied) = (pair.name, 0u32, 0u32);
+        for job in &compared(opened, *pair)? {
+            let want = want_of(&opened.store, program.alloc(), job)?;
+            written = written.saturating_add(job.written);
+            copied = copied.saturating_add(want.copied);
+            wants.push(want)?;
+        }
         write!(opened.text, "{name} would write {written} copy {copied}\n")?;
         needed = needed.saturating_add(copied);
-        wants.push(want)?;
     }
     let free = slots.saturating_sub(opened.store.used_all());
     write!(opened.text, "slots {needed} needed, {free} free\n")?;

@@ -1,10 +1,12 @@
 //! `restore`: a file takes its place whole, or what is there stays.
 
-use crate::list::length_of;
+use crate::list::length_of_all;
 use crate::sets::no_image;
 use crate::show::show_into;
 use crate::task::Shown;
-use image_folder::{Folder, Opened, Program, Source, Status, ended, name_in, note, parent_of};
+use image_folder::{
+    Folder, Opened, Program, Source, Status, ended, is_part, name_in, note, parent_of,
+};
 use image_store::Which;
 use std::alloc::AllocError;
 use std::fs::{File, Metadata, Permissions};
@@ -176,7 +178,8 @@ fn parts_of(opened: &Opened, set: u32, folder: &str) -> Result<Vec<Part>, Status
     let (program, folder) = (opened.folder.program, folder.trim_end_matches('/'));
     let mut parts = Vec::new(program.alloc());
     for volume in 0..opened.store.volumes() {
-        if opened.store.images(volume).contains(&set) {
+        let is_further = is_part(&opened.store, program.alloc(), volume)?;
+        if opened.store.images(volume).contains(&set) && !is_further {
             let name = String::from_str(program.alloc(), name_in(&opened.store, volume))?;
             let path = format!(in program.alloc(); "{folder}/{name}")?;
             parts.push(Part { name, path })?;
@@ -235,7 +238,7 @@ fn check_part(opened: &mut Opened, set: u32, part: &Part, is_over: bool) -> Resu
         return Ok(());
     }
     let volume = opened.place_of_image(set, part.name.as_str())?;
-    match length_of(opened, volume, Which::Of(set))? {
+    match length_of_all(opened, volume, Which::Of(set))? {
         Some(_) => Ok(()),
         None => Err(
             ended!(opened.folder.program, Refused; "{path}: is there, and was not in set {set}; remove it first"),

@@ -3,7 +3,7 @@
 ghost use Rattle.std.specs.Prelude.{◌≡◌, ◌≢◌, ◌<◌, length, All, OnOk};
 ghost use Rattle.std.specs.List.{AllPairs};
 
-use image_folder::{Brought, Files, Opened, Status, ended, name_in, note, sets_of};
+use image_folder::{Brought, Files, Opened, Status, ended, is_part, name_in, note, sets_of};
 use image_store::CutFault;
 use vss_names::MOST_IMAGES;
 
@@ -34,7 +34,7 @@ fn add_places(opened: &Opened, names: &[String], volumes: &mut Vec<u32>) -> Resu
     ensures apart { OnOk result (AllPairs (λ u v. u ≢ v) volumes.new.items) }
 {
     for name in names {
-        opened.add_place(name.as_str(), volumes)?;
+        opened.add_places(name.as_str(), volumes)?;
     }
     Ok(())
 }
@@ -74,15 +74,20 @@ pub fn cut(opened: &mut Opened, note_of: &str, names: &[String]) -> Result<(), S
     }
 }
 
-/// Drops the image of a set from one volume, or from each that has one. How many went is answered.
-fn drop_images(store: &mut Files, set: u32, only: Option<u32>) -> u32 {
-    let mut count = 0u32;
-    for volume in 0..store.volumes() {
-        if only.unwrap_or(volume) == volume && store.drop_image(set, volume).is_ok() {
-            count = count.saturating_add(1);
+/// Drops the image of a set from these volumes, or from each that has one. Of how many files they went is answered.
+fn drop_images(opened: &mut Opened, set: u32, only: Option<&[u32]>) -> Result<u32, Status> {
+    let (mut count, alloc) = (0u32, opened.folder.program.alloc());
+    for volume in 0..opened.store.volumes() {
+        let is_meant = match only {
+            Some(volumes) => volumes.contains(&volume),
+            None => true,
+        };
+        if is_meant && opened.store.drop_image(set, volume).is_ok() {
+            let is_further = is_part(&opened.store, alloc, volume)?;
+            count = count.saturating_add(u32::from(!is_further));
         }
     }
-    count
+    Ok(count)
 }
 
 /// Says that there is no image of a set.
@@ -95,10 +100,13 @@ pub fn no_image(opened: &Opened, set: u32) -> Status {
 pub fn delete(opened: &mut Opened, set: u32, name: Option<&str>) -> Result<(), Status> {
     opened.check_transit(&[])?;
     let only = match name {
-        Some(name) => Some(opened.place_of_image(set, name)?),
+        Some(name) => {
+            opened.place_of_image(set, name)?;
+            Some(opened.parts_of(name)?)
+        }
         None => None,
     };
-    let count = drop_images(&mut opened.store, set, only);
+    let count = drop_images(opened, set, only.as_deref())?;
     if count == 0 {
         return Err(no_image(opened, set));
     }
@@ -115,7 +123,7 @@ pub fn prune(opened: &mut Opened, keep: u32) -> Result<(), Status> {
         return Ok(());
     }
     for set in sets.iter().take(count) {
-        let images = drop_images(&mut opened.store, *set, None);
+        let images = drop_images(opened, *set, None)?;
         write!(opened.text, "deleted set {set}: {images}\n")?;
     }
     opened.commit_marked("delete\n")
@@ -123,10 +131,10 @@ pub fn prune(opened: &mut Opened, keep: u32) -> Result<(), Status> {
 
 /// The images of a volume that are newer than that of a set go, the newest first. So what is kept after it shows that image and the older
 /// ones wherever a revert is broken off.
-fn drop_newer(store: &mut Files, set: u32, volume: u32)
-    requires { volume < length store.old.group.area.volumes }
-    ensures { store.new.group.area.volumes ≡ store.old.group.area.volumes }
-{
+fn drop_newer(store: &mut Files, set: u32, volume: u32) {
+    if volume >= store.volumes() {
+        return;
+    }
     for _image in 0..store.images(volume).len() {
         let newest = store.images(volume).last().copied().unwrap_or(0);
         if newest > set {
@@ -135,14 +143,31 @@ fn drop_newer(store: &mut Files, set: u32, volume: u32)
     }
 }
 
-/// `revert F SET NAME`: a volume is brought back to its image of a set. In memory the newer images go first.
+/// That each volume of a file has an image of a set: it may have got some since.
+fn check_images(opened: &Opened, set: u32, name: &str, volumes: &[u32]) -> Result<(), Status> {
+    for volume in volumes {
+        if *volume < opened.store.volumes() && !opened.store.images(*volume).contains(&set) {
+            let folder = opened.folder.path.as_str();
+            return Err(
+                ended!(opened.folder.program, Refused; "{folder}: set {set}: {name} got more volumes since; ./images restore gives its file, and an update brings {name} to it"),
+            );
+        }
+    }
+    Ok(())
+}
+
+/// `revert F SET NAME`: the volumes of a file are brought back to their images of a set. In memory the newer images go first.
 pub fn revert(opened: &mut Opened, set: u32, name: &str) -> Result<(), Status> {
     opened.check_transit(&[name])?;
-    let volume = opened.place_of_image(set, name)?;
+    opened.place_of_image(set, name)?;
+    let volumes = opened.parts_of(name)?;
+    check_images(opened, set, name, &volumes)?;
     opened.settle()?;
     let lines = format!(in opened.folder.program.alloc(); "revert\n{name}\n")?;
-    drop_newer(&mut opened.store, set, volume);
-    opened.revert(lines.as_str(), set, volume)?;
+    for volume in &volumes {
+        drop_newer(&mut opened.store, set, *volume);
+    }
+    opened.revert(lines.as_str(), set, volumes)?;
     let source = opened.folder.source_of(Some(set), name)?;
     opened.folder.note_together(&[Brought { name, source }])
 }

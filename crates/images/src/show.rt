@@ -1,11 +1,11 @@
 //! `show` and `digest`, and what `restore` writes.
 
-ghost use Rattle.std.specs.Prelude.{◌≡◌, ◌<◌, length, IfOk};
+ghost use Rattle.std.specs.Prelude.{◌<◌, length};
 
 use crate::shown_sink::ShownSink;
 use crate::task::Shown;
 use block_data::{BLOCK, Hasher};
-use image_folder::{ABSENT, AREA, Opened, Program, Progress, Status, ended, name_in};
+use image_folder::{ABSENT, AREA, Opened, Program, Progress, Status, ended, name_in, parts_in};
 use image_store::{ShowFault, Which};
 use std::fs::File;
 use std::io;
@@ -29,22 +29,33 @@ fn check_marker(opened: &Opened, volume: u32, which: Which) -> Result<(), Status
     }
 }
 
-/// What is shown of which volume.
-fn found(opened: &Opened, of: Shown<'_>) -> Result<(u32, Which), Status>
-    ensures { IfOk result (λ it. it.0 < length opened.now.store.group.area.volumes) }
+/// The volumes that have what is shown of a file, of which this one has the name. A set from before it grew has no images of further ones.
+pub fn parts_shown(opened: &Opened, volume: u32, which: Which) -> Result<Vec<u32>, Status>
+    requires { volume < length opened.now.store.group.area.volumes }
 {
+    let (store, alloc) = (&opened.store, opened.folder.program.alloc());
+    let mut parts = parts_in(store, alloc, volume)?;
+    if let Which::Of(set) = which {
+        parts.retain(|part| *part < store.volumes() && store.images(*part).contains(&set));
+    }
+    Ok(parts)
+}
+
+/// What is shown of which volumes.
+fn found(opened: &Opened, of: Shown<'_>) -> Result<(Vec<u32>, Which), Status> {
     let (volume, which) = match of.set {
         None => (opened.place_of(of.name)?, Which::Now),
         Some(set) => (opened.place_of_image(set, of.name)?, Which::Of(set)),
     };
     check_marker(opened, volume, which)?;
-    Ok((volume, which))
+    Ok((parts_shown(opened, volume, which)?, which))
 }
 
 /// Says why a file was not shown.
-pub fn refusal(opened: &Opened, volume: u32, which: Which, fault: ShowFault) -> Status
-    requires { volume < length opened.now.store.group.area.volumes }
-{
+pub fn refusal(opened: &Opened, volume: u32, which: Which, fault: ShowFault) -> Status {
+    if volume >= opened.store.volumes() {
+        return Status::DeviceFault;
+    }
     let (folder, name) = (opened.folder.path.as_str(), name_in(&opened.store, volume));
     let size = u64::from(opened.store.blocks(volume)) * BLOCK as u64;
     match fault {
@@ -69,19 +80,33 @@ pub fn refusal(opened: &Opened, volume: u32, which: Which, fault: ShowFault) -> 
     }
 }
 
-/// Writes a file into a sink, and then takes its progress away; the word says what becomes of the blocks.
+/// How many blocks these volumes have.
+fn blocks_of(opened: &Opened, volumes: &[u32]) -> u32 {
+    let mut blocks = 0u32;
+    for volume in volumes {
+        if *volume < opened.store.volumes() {
+            blocks = blocks.saturating_add(opened.store.blocks(*volume));
+        }
+    }
+    blocks
+}
+
+/// Writes the file that these volumes have into a sink, and then takes its progress away; the word says what becomes of the blocks. If it fails the
+/// volume is answered, too.
 fn fill<W: Write + Drop>(
     opened: &mut Opened,
-    volume: u32,
+    volumes: &[u32],
     which: Which,
     word: &'static str,
     sink: &mut ShownSink<W>,
-) -> Result<(), ShowFault>
-    requires { volume < length opened.old.store.group.area.volumes }
-    ensures { opened.new.store.group.area.volumes ≡ opened.old.store.group.area.volumes }
-{
-    sink.progress = Progress::new(&opened.folder.program, word, opened.store.blocks(volume));
-    let done = opened.store.show(volume, which, sink);
+) -> Result<(), (u32, ShowFault)> {
+    sink.progress = Progress::new(&opened.folder.program, word, blocks_of(opened, volumes));
+    let mut done = Ok(());
+    for volume in volumes {
+        if done.is_ok() && *volume < opened.store.volumes() {
+            done = opened.store.show(*volume, which, sink).map_err(|fault| (*volume, fault));
+        }
+    }
     sink.progress.clear();
     done
 }
@@ -93,10 +118,10 @@ fn show_in(
     word: &'static str,
     sink: &mut ShownSink<Stdout>,
 ) -> Result<(), Status> {
-    let (volume, which) = found(opened, of)?;
-    match fill(opened, volume, which, word, sink) {
+    let (volumes, which) = found(opened, of)?;
+    match fill(opened, &volumes, which, word, sink) {
         Ok(()) => Ok(()),
-        Err(fault) => Err(refusal(opened, volume, which, fault)),
+        Err((volume, fault)) => Err(refusal(opened, volume, which, fault)),
     }
 }
 
@@ -135,11 +160,11 @@ pub fn show_into(
     path: &str,
 ) -> Result<File, Status> {
     let program = opened.folder.program;
-    let (volume, which) = found(opened, of)?;
+    let (volumes, which) = found(opened, of)?;
     let mut sink = ShownSink::new(&program, file, None);
-    match fill(opened, volume, which, "restored", &mut sink) {
+    match fill(opened, &volumes, which, "restored", &mut sink) {
         Ok(()) => Ok(sink.into_out()),
-        Err(ShowFault::Sink) => Err(unwritten(&program, path, sink.last)),
-        Err(fault) => Err(refusal(opened, volume, which, fault)),
+        Err((_, ShowFault::Sink)) => Err(unwritten(&program, path, sink.last)),
+        Err((volume, fault)) => Err(refusal(opened, volume, which, fault)),
     }
 }

@@ -1,0 +1,36 @@
+-- The parts of a file that several volumes keep: how they are called, and which bytes of the file each has. (This project's own.)
+use Rattle.std.specs.Prelude.{ℕ, zero, suc, ◌+◌, ◌*◌, ◌-◌, ◌/◌, ◌%◌, ◌==◌, Bool, true, false, List, [], ◌∷◌, ◌++◌, take, drop, length, min, if◌then◌else◌, ◌≡◌, Some, slice_get}
+use Rattle.image_store.specs.Naming.{AreOthers, IsNamed}
+use Rattle.vss_names.specs.TextValue.{TextValue}
+
+-- the digit with which n ends
+abbrev pub digit : ℕ → ℕ
+digit n = 48 + n % 10
+
+-- the name of a part of the file of this name: the first has that name, and any other one `..` and its number behind it
+abbrev pub part_name : List ℕ → ℕ → List ℕ
+part_name name number = if number == 0 then name
+    else name ++ 46 ∷ 46 ∷ digit (number / 100) ∷ digit (number / 10) ∷ digit number ∷ []
+
+-- volume u keeps the part of this number of the file of which volume v has the name: it has the name of the part
+abbrev pub IsPart : List TextValue → ℕ → ℕ → ℕ → Type 0
+IsPart names v number u = (name : TextValue) → slice_get names v ≡ Some name → IsNamed names (part_name name.bytes number) u
+
+-- no volume does
+abbrev pub IsNoPart : List TextValue → ℕ → ℕ → Type 0
+IsNoPart names v number = (name : TextValue) → slice_get names v ≡ Some name → AreOthers names (part_name name.bytes number) (length names)
+
+-- of a file that is cut into parts of so many bytes, what the part of this number has: the last one all that is left
+abbrev pub piece : ℕ → ℕ → Bool → List ℕ → List ℕ
+piece size number true file = drop (number * size) file
+piece size number false file = take size (drop (number * size) file)
+
+-- the pieces from a number on, behind which so many more come, one behind another
+unfoldable pub joined : ℕ → ℕ → ℕ → List ℕ → List ℕ
+joined size number zero file = piece size number true file
+joined size number (suc more) file = piece size number false file ++ joined size (suc number) more file
+
+-- how many bytes a piece has of a file of so many
+abbrev pub piece_length : ℕ → ℕ → Bool → ℕ → ℕ
+piece_length size number true bytes = bytes - number * size
+piece_length size number false bytes = min (bytes - number * size) size
