@@ -273,7 +273,7 @@ class Plain:
         data = self.read(file)
         length = len(data or b"")
         if count is not None and length > BLOCK * count - 8:
-            raise Ends(3, f"{file}: length: {length} bytes, and {name} has room for {BLOCK * count - 8}")
+            raise Ends(3, f"{file}: length: {length} bytes, and {name} has room for {BLOCK * count - 8}; it needs {-(-(length + 8) // BLOCK)} blocks")
         return Volume(name, data, (length + 8 + BLOCK - 1) // BLOCK if count is None else count)
 
     @staticmethod
@@ -348,7 +348,7 @@ class Plain:
         for v, (_, _, file) in zip(volumes, pairs):
             data = self.read(file)
             if len(data or b"") > BLOCK * v.count - 8:
-                raise Ends(3, f"{file}: length: {len(data)} bytes, and {v.name} has room for {BLOCK * v.count - 8}")
+                raise Ends(3, f"{file}: length: {len(data)} bytes, and {v.name} has room for {BLOCK * v.count - 8}; it needs {-(-(len(data) + 8) // BLOCK)} blocks")
             old, new = v.blocks(), blocks_of(data, v.count)
             jobs.append((v, data, [b for b in range(v.count) if old[b] != new[b]]))
         counts = []

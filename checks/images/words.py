@@ -128,7 +128,7 @@ def in_transit(program):
     """Images are listed beside a volume in transit, and it is named."""
     shutil.copytree("F", "E")
     write("E/images.open", b"update\ndb\n")
-    line = b"images: E: left open by update of db; an update of db goes on, and ./images check E says what is whole\n"
+    line = b"images: E: left open by update of db; an update of db ends it, and ./images check E says what is whole\n"
     for words, part in (
         (["list", "E"], b"volume db blocks 4 in transit\nimage 1 length 49152 used 3\n"), (["list", "--json", "E"], b'"in_transit":true,"length":null'),
         (["sets", "E"], b"\nset 2 "), (["diff", "E", "1", "2"], b"volume db written 3: 0-2\n"), (["diff", "E", "1", "log"], b"volume log written 0\n"),
@@ -227,7 +227,7 @@ def main(program, room):
     has("now", second, 0o640)
     os.symlink("out", "link")
     call(3, "link: is no file", "restore", "--over", "F", "1", "db", "link")
-    call(5, "nowhere/out~restored: could not be made: No such file", "restore", "F", "1", "db", "nowhere/out")
+    call(5, "nowhere/out~restored: could not be made: there is no such folder; make it first", "restore", "F", "1", "db", "nowhere/out")
     write("left~restored", b"of somebody else")
     call(3, "left~restored: is left of a restore that did not end", "restore", "F", "1", "db", "left")
     if read("left~restored") != b"of somebody else" or os.path.exists("left"):
@@ -265,7 +265,7 @@ def main(program, room):
     call(0, "", "restore", "I", "1", "both")
     if files_below("both") != {"both/a": second, "both/a.restored": b"newer"}:
         sys.exit(f"a set with a name that ends in .restored: {os.listdir('both')}")
-    call(5, "nowhere/db~restored: could not be made: No such file", "restore", "F", "2", "nowhere")
+    call(5, "nowhere/db~restored: could not be made: there is no such folder; make it first", "restore", "F", "2", "nowhere")
 
     write("db", third)
     call(0, "db would write 3 copy 3\nslots 3 needed, 3 free\n", "update", "--dry-run", "F", "db=db")

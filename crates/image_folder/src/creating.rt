@@ -129,11 +129,7 @@ pub fn inputs_of<'a>(program: &Program, pair: Pair<'a>) -> Result<Vec<FileInput<
 }
 
 /// Adds the jobs of a pair, of the new volumes behind those of the jobs that there are.
-fn add_jobs<'a>(
-    program: &Program,
-    pair: Pair<'a>,
-    jobs: &mut Vec<Job<'a>>,
-) -> Result<(), Status> {
+fn add_jobs<'a>(program: &Program, pair: Pair<'a>, jobs: &mut Vec<Job<'a>>) -> Result<(), Status> {
     for input in inputs_of(program, pair)? {
         let volume = u32::try_from(jobs.len()).unwrap_or(u32::MAX);
         jobs.push(Job::new(program.alloc(), volume, input)?)?;

@@ -218,8 +218,9 @@ impl<'a> FileInput<'a> {
         let room = (u64::from(blocks) * BLOCK as u64).saturating_sub(LENGTH as u64);
         let (path, length) = (self.path, self.length());
         if length > room {
+            let needed = length.saturating_add(LENGTH as u64).div_ceil(BLOCK as u64);
             return Err(
-                ended!(self.program, Refused; "{path}: length: {length} bytes, and {name} has room for {room}"),
+                ended!(self.program, Refused; "{path}: length: {length} bytes, and {name} has room for {room}; it needs {needed} blocks"),
             );
         }
         (self.name, self.blocks) = (name, blocks);

@@ -94,9 +94,7 @@ impl<'a> Report<StoreDevice, FileInput<'a>, Status> for FileReport {
 
     fn say_gone(&self, store: &Files, gone: &[Evicted]) -> Result<(), Status> {
         for one in gone {
-            if one.volume < store.volumes()
-                && !is_part(store, self.program.alloc(), one.volume)?
-            {
+            if one.volume < store.volumes() && !is_part(store, self.program.alloc(), one.volume)? {
                 let name = name_in(store, one.volume);
                 say(
                     &self.program,

@@ -8,7 +8,9 @@ use crate::folder::{AREA, Folder};
 use crate::longer::{Longer, tail_of};
 use crate::marker::line_of_parts;
 use crate::opened::Opened;
-use crate::parts::{MOST_OF_FILE, Part, blocks_of_file, blocks_of_part, part_name, parts_for, text_of};
+use crate::parts::{
+    MOST_OF_FILE, Part, blocks_of_file, blocks_of_part, part_name, parts_for, text_of,
+};
 use crate::program::Program;
 use crate::shape::Shape;
 use crate::state::{Row, blocks_in, first_of};
@@ -150,7 +152,12 @@ impl<'a> Growth<'a> {
     ) -> Result<(), Status> {
         let (program, last) = (&folder.program, self.last);
         let file = Longer::grown(program, folder.path_of_volume(self.name)?, self.blocks())?;
-        file.put_tail(last, tails.own, sums, self.first.saturating_add(last as usize))?;
+        file.put_tail(
+            last,
+            tails.own,
+            sums,
+            self.first.saturating_add(last as usize),
+        )?;
         file.sync()?;
         let all = blocks_in(shape.head.catalog());
         let size = shape.front.saturating_add(shape.slots);
@@ -235,7 +242,10 @@ fn more_blocks(
     blocks: u32,
 ) -> Result<(), Status> {
     let (program, alloc) = (folder.program, folder.program.alloc());
-    let (parts, last) = (number_in(volumes.len()), volumes.last().copied().unwrap_or(0));
+    let (parts, last) = (
+        number_in(volumes.len()),
+        volumes.last().copied().unwrap_or(0),
+    );
     let had = shape.blocks_of(last);
     let mut inputs = new_parts(&program, name, parts, blocks.min(MOST_OF_FILE))?;
     let had_in_all = blocks_of_file(volumes.len(), had);
@@ -252,7 +262,12 @@ fn more_blocks(
     let line = if inputs.is_empty() {
         String::from_str(alloc, "grow\n")?
     } else {
-        line_of_parts(alloc, "grow", name, volumes.len().saturating_add(inputs.len()))?
+        line_of_parts(
+            alloc,
+            "grow",
+            name,
+            volumes.len().saturating_add(inputs.len()),
+        )?
     };
     mark(folder, line.as_str())?;
     if let Some(tails) = &tails {

@@ -194,7 +194,7 @@ impl Opened {
                 let mut all = String::new(alloc);
                 self.add_in_transit(&[], &mut all)?;
                 Ok(Some(format!(in alloc;
-                    "{path}: left open by {marker}; an update of{all} goes on, and ./images check {path} says what is whole"
+                    "{path}: left open by {marker}; an update of{all} ends it, and ./images check {path} says what is whole"
                 )?))
             }
             _ => Ok(None),

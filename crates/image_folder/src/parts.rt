@@ -116,7 +116,14 @@ pub fn parted(name: &[u8]) -> Option<(&[u8], u32)>
     ensures { IfSome result (λ it. 0 < it.1 → name.now ≡ part_name it.0.now it.1) }
 {
     match name {
-        [whole @ .., b'.', b'.', hundreds @ b'0'..=b'9', tens @ b'0'..=b'9', ones @ b'0'..=b'9'] => {
+        [
+            whole @ ..,
+            b'.',
+            b'.',
+            hundreds @ b'0'..=b'9',
+            tens @ b'0'..=b'9',
+            ones @ b'0'..=b'9',
+        ] => {
             let [hundreds, tens, ones] = [hundreds - b'0', tens - b'0', ones - b'0'];
             let number = 100 * u32::from(hundreds) + 10 * u32::from(tens) + u32::from(ones);
             Some((whole, number))

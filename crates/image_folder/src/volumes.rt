@@ -132,7 +132,11 @@ fn fill(
 
 /// The path of the file of the volume of an input.
 fn path_of(folder: &Folder, input: &FileInput<'_>) -> Result<String, Status> {
-    let name = part_name(folder.program.alloc(), input.name.as_bytes(), input.part.number)?;
+    let name = part_name(
+        folder.program.alloc(),
+        input.name.as_bytes(),
+        input.part.number,
+    )?;
     Ok(folder.path_of_volume(text_of(&name))?)
 }
 
@@ -290,7 +294,11 @@ fn take_away(
     }
     for (number, volume) in volumes.iter().enumerate() {
         take_one(&program, shape, *volume)?;
-        let part = part_name(alloc, name.as_bytes(), u32::try_from(number).unwrap_or(u32::MAX))?;
+        let part = part_name(
+            alloc,
+            name.as_bytes(),
+            u32::try_from(number).unwrap_or(u32::MAX),
+        )?;
         shape.gone.push(folder.path_of_volume(text_of(&part))?)?;
     }
     let line = line_of_parts(alloc, "remove", name, volumes.len())?;

@@ -138,7 +138,10 @@ fn add_volume(
     let mut images = Vec::new(alloc);
     let length = length_or_none(opened, volume, Which::Now, done)?;
     add_images(opened, volume, &mut images, done)?;
-    let (name, blocks) = (name_in(&opened.store, volume), size_of(opened, volume, Which::Now)?);
+    let (name, blocks) = (
+        name_in(&opened.store, volume),
+        size_of(opened, volume, Which::Now)?,
+    );
     let is_in_transit = opened.is_in_transit(volume);
     volumes.push(volume_value(alloc, name, blocks, length, is_in_transit, images)?)?;
     Ok(())

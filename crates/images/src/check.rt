@@ -49,7 +49,7 @@ fn say_volumes(opened: &Opened) -> Result<(), Status> {
 /// Prints what is left to do of a folder in which volumes of these names are in transit, and that is whole else.
 fn say_unclean(opened: &Opened, names: &str) -> Result<(), Status> {
     say_volumes(opened)?;
-    let line = format_args!("whole but for{names}; an update of{names} goes on\n");
+    let line = format_args!("whole but for{names}; an update of{names} ends it\n");
     say(&opened.folder.program, line)?;
     Err(Status::Unclean)
 }

@@ -43,12 +43,7 @@ fn runs_of(alloc: Global, marks: &[bool]) -> Result<Vec<(usize, usize)>, AllocEr
 }
 
 /// Which blocks of a part of a file were written: all, if one of the sets is from before there was this part.
-fn marks_of(
-    store: &Files,
-    alloc: Global,
-    part: u32,
-    span: Span,
-) -> Result<Vec<bool>, AllocError>
+fn marks_of(store: &Files, alloc: Global, part: u32, span: Span) -> Result<Vec<bool>, AllocError>
     requires { part < length store.now.group.area.volumes }
 {
     let images = store.images(part);

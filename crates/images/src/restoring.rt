@@ -64,6 +64,9 @@ fn made_aside(program: &Program, aside: &str) -> Result<File, Status> {
         Err(error) if error.kind() == ErrorKind::AlreadyExists => Err(
             ended!(*program, Refused; "{aside}: is left of a restore that did not end, or of another program; remove it"),
         ),
+        Err(error) if error.kind() == ErrorKind::NotFound => Err(
+            ended!(*program, WriteFault; "{aside}: could not be made: there is no such folder; make it first"),
+        ),
         Err(error) => Err(ended!(*program, WriteFault; "{aside}: could not be made: {error}")),
     }
 }

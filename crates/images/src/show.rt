@@ -104,7 +104,10 @@ fn fill<W: Write + Drop>(
     let mut done = Ok(());
     for volume in volumes {
         if done.is_ok() && *volume < opened.store.volumes() {
-            done = opened.store.show(*volume, which, sink).map_err(|fault| (*volume, fault));
+            done = opened
+                .store
+                .show(*volume, which, sink)
+                .map_err(|fault| (*volume, fault));
         }
     }
     sink.progress.clear();
