@@ -1,5 +1,5 @@
 -- The parts of a file that several volumes keep: how they are called, and which bytes of the file each has. (This project's own.)
-use Rattle.std.specs.Prelude.{ℕ, zero, suc, ◌+◌, ◌*◌, ◌-◌, ◌/◌, ◌%◌, ◌==◌, Bool, true, false, List, [], ◌∷◌, ◌++◌, take, drop, length, min, if◌then◌else◌, ◌≡◌, Some, slice_get}
+use Rattle.std.specs.Prelude.{ℕ, zero, suc, ◌+◌, ◌*◌, ◌-◌, ◌/◌, ◌%◌, ◌==◌, Bool, true, false, List, [], ◌∷◌, ◌++◌, take, drop, length, min, if◌then◌else◌, ◌≡◌, ◌<◌, Some, slice_get}
 use Rattle.image_store.specs.Naming.{AreOthers, IsNamed}
 use Rattle.vss_names.specs.TextValue.{TextValue}
 
@@ -19,6 +19,10 @@ IsPart names v number u = (name : TextValue) → slice_get names v ≡ Some name
 -- no volume does
 abbrev pub IsNoPart : List TextValue → ℕ → ℕ → Type 0
 IsNoPart names v number = (name : TextValue) → slice_get names v ≡ Some name → AreOthers names (part_name name.bytes number) (length names)
+
+-- of these volumes each but the first keeps the part whose number is its place
+abbrev pub AreParts : List TextValue → ℕ → List ℕ → Type 0
+AreParts names v parts = (number u : ℕ) → 0 < number → slice_get parts number ≡ Some u → IsPart names v number u
 
 -- of a file that is cut into parts of so many bytes, what the part of this number has: the last one all that is left
 abbrev pub piece : ℕ → ℕ → Bool → List ℕ → List ℕ
