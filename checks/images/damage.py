@@ -61,7 +61,7 @@ class Damage:
             data[place] ^= 0x41
             for words in [["list", "F"]] + [["check", "F"], ["show", "F", "1", "db"], ["update", "F", "db=db"]] * (place == places[20]):
                 self.refuses("images.state", bytes(data), 9, words, NOT_TRUSTED)
-        for data, told in ((state[:-1], b"digest"), (state + b"x", b"digest"), (b"", b"size"), (state[:31], b"size"), (state + bytes(5_000_000), b"size")):
+        for data, told in ((state[:-1], b"digest"), (state + b"x", b"digest"), (b"", b"size"), (state[:31], b"size"), (state + bytes(137_000_000), b"size")):
             self.refuses("images.state", data, 9, ["list", "F"], b"images: F/images.state: " + told)
 
     def field(self, place, data, told, reseals=False):
