@@ -264,7 +264,10 @@ pub fn add(
 /// Takes a volume away with its images.
 fn take_one(program: &Program, shape: &mut Shape, volume: u32) -> Result<(), Status> {
     let (alloc, catalog) = (program.alloc(), shape.head.catalog());
-    if volume >= catalog.volumes() || catalog.volumes() < 2 {
+    if volume >= catalog.volumes() {
+        return Err(Status::DeviceFault);
+    }
+    if catalog.volumes() < 2 {
         return Err(Status::DeviceFault);
     }
     let (first, blocks) = (first_of(catalog, volume), catalog.blocks(volume) as usize);
