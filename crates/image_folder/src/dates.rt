@@ -4,7 +4,7 @@
 use crate::folder::{DATES, Folder};
 use crate::pair::set_of;
 use crate::program::Program;
-use crate::source::{keyed, source_in};
+use crate::source::keyed;
 use crate::status::Status;
 use std::time::{SystemTime, UNIX_EPOCH};
 
@@ -77,26 +77,14 @@ impl Folder {
         }
     }
 
-    /// Adds the lines of what the files of the volumes of these names are like, of which a set is cut.
-    fn add_sources(&self, set: u32, names: &[&str], new: &mut String) -> Result<(), Status> {
-        let Some(lines) = self.together()? else {
-            return Ok(());
-        };
-        for name in names {
-            if let Some(source) = source_in(lines.as_str(), None, name) {
-                write!(new, "{set}={name} {source}\n")?;
-            }
-        }
-        Ok(())
-    }
-
-    /// Notes when a set is cut over the volumes of these names, before it lasts. Of all others only those that stand, by rising numbers, keep their lines.
+    /// Notes when a set is cut, of which these are the lines of files, before it lasts. Of all others only those that stand, by rising numbers, keep their
+    /// lines.
     pub fn note_date(
         &self,
         standing: &[u32],
         set: u32,
         note: &str,
-        names: &[&str],
+        sources: &str,
     ) -> Result<(), Status> {
         let old = self.dates()?;
         let mut new = String::new(self.program.alloc());
@@ -109,7 +97,7 @@ impl Folder {
             }
         }
         write!(new, "{set} {} {note}\n", seconds_now(&self.program))?;
-        self.add_sources(set, names, &mut new)?;
+        new.push_str(sources)?;
         self.put_list(DATES, new.as_str())
     }
 }

@@ -11,6 +11,7 @@ use crate::left::clear_left;
 use crate::marker::Marker;
 use crate::naming::{is_part, name_in};
 use crate::program::Program;
+use crate::source::add_source;
 use crate::state::{State, blocks_in};
 use crate::status::Status;
 use crate::sum_fault::{fault_of, say_other};
@@ -275,13 +276,16 @@ impl Opened {
         ensures { self.new.store ≡ self.old.store }
     {
         let alloc = self.folder.program.alloc();
-        let (standing, mut names) = (sets_of(&self.store, alloc)?, Vec::new(alloc));
+        let (standing, mut sources) = (sets_of(&self.store, alloc)?, String::new(alloc));
+        let lines = self.folder.together()?.unwrap_or(String::new(alloc));
         for volume in 0..self.store.volumes() {
             if self.store.images(volume).contains(&set) {
-                names.push(name_in(&self.store, volume))?;
+                let name = name_in(&self.store, volume);
+                add_source(lines.as_str(), set, name, &mut sources)?;
             }
         }
-        self.folder.note_date(&standing, set, note, &names)
+        self.folder
+            .note_date(&standing, set, note, sources.as_str())
     }
 
     /// Ends a call: what it changed lasts and the marker is gone before anything is printed.

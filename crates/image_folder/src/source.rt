@@ -5,6 +5,7 @@ use crate::folder::Folder;
 use crate::pair::set_of;
 use crate::status::Status;
 use crate::together::unless_damaged;
+use std::alloc::AllocError;
 use std::fmt;
 use std::fs::Metadata;
 use std::os::unix::fs::MetadataExt;
@@ -84,6 +85,19 @@ pub fn source_in(lines: &str, set: Option<u32>, name: &str) -> Option<Source> {
         }
     }
     None
+}
+
+/// Adds the line of the image that a set is cut of the volume of a name, if lines say what its file is like.
+pub fn add_source(
+    lines: &str,
+    set: u32,
+    name: &str,
+    sources: &mut String,
+) -> Result<(), AllocError> {
+    match source_in(lines, None, name) {
+        Some(source) => write!(sources, "{set}={name} {source}\n"),
+        None => Ok(()),
+    }
 }
 
 impl Folder {
