@@ -111,7 +111,9 @@ fn set_source(file: &File, source: Option<Source>, old: Option<Metadata>) -> io:
         (Some(source), _) => {
             let _ = fchown(file, Some(source.user), Some(source.group));
             file.set_permissions(Permissions::from_mode(source.mode))?;
-            match UNIX_EPOCH.checked_add(Duration::new(source.seconds, source.nanos)) {
+            let nanos = Duration::from_nanos(u64::from(source.nanos));
+            let since = Duration::from_secs(source.seconds).saturating_add(nanos);
+            match UNIX_EPOCH.checked_add(since) {
                 Some(time) => file.set_modified(time),
                 None => Ok(()),
             }
