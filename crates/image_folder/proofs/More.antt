@@ -32,4 +32,8 @@ pub next_part : (names : List TextValue) (volumes v number : ℕ) (parts new : L
     → slice_get parts 0 ≡ Some v → length parts ≡ number → AreParts names v parts → IsPart names v number u
     → All (λ w. w < volumes) new × (slice_get new 0 ≡ Some v) × (length new ≡ number + 1) × AreParts names v new
 next_part names volumes v number parts new u now within below first count are is = rw now (
-    All-append (λ w. w < volumes) parts (u ∷ []) within (All-cons (λ w. w < volumes) u [] below (All-nil (λ w. w < volumes))), first_stays parts u v first, one_more parts u ∙ ap (λ (n : ℕ). n + 1) count, parts_more names v parts u are (rw count is))
+  All-append (λ w. w < volumes) parts (u ∷ []) within (All-cons (λ w. w < volumes) u [] below (All-nil (λ w. w < volumes))),
+  first_stays parts u v first,
+  one_more parts u ∙ ap (λ (n : ℕ). n + 1) count,
+  parts_more names v parts u are (rw count is),
+)
