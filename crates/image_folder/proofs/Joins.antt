@@ -1,7 +1,7 @@
 -- The pieces of a file, one behind another, are the file.
-use Rattle.std.proofs.Common.{ℕ, zero, suc, ◌≡◌, ◌+◌, ◌*◌, ◌∙◌, List, ◌++◌, length, take, drop, refl, ap, arith, sym}
+use Rattle.std.proofs.Common.{ℕ, zero, suc, ◌≡◌, ◌*◌, ◌∙◌, List, ◌++◌, take, drop, refl, ap, arith, sym}
 use Rattle.std.proofs.lemmas.List.{take-append-drop, drop-drop}
-use Rattle.image_folder.specs.Parts.{joined, piece}
+use Rattle.image_folder.specs.Parts.{joined}
 
 next_piece : (size number : ℕ) (file : List ℕ) → drop size (drop (number * size) file) ≡ drop (suc number * size) file
 next_piece size number file = drop-drop size (number * size) file ∙ ap (λ (n : ℕ). drop n file) (omega arith)

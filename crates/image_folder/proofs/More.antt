@@ -1,5 +1,6 @@
 -- One part more.
-use Rattle.std.proofs.Common.{ℕ, zero, suc, ◌≡◌, ◌<◌, ◌+◌, ◌⊎◌, List, [], ◌∷◌, ◌++◌, length, Some, slice_get, All, refl, sym, subst, ap, ◌∙◌, rules, arith, inl, inr}
+use Rattle.std.proofs.Common.{ℕ, zero, suc, ◌≡◌, ◌<◌, ◌+◌, ◌⊎◌, List, [], ◌∷◌, ◌++◌, length, Some, slice_get, All, refl, sym, ap, ◌∙◌, arith, inl, inr}
+use Rattle.std.proofs.lemmas.List.{length_push}
 use Rattle.std.proofs.lemmas.List.Elements.{All-append, All-cons, All-nil}
 use Rattle.vss_names.specs.TextValue.{TextValue}
 use Rattle.image_folder.specs.Parts.{AreParts, IsPart}
@@ -24,16 +25,12 @@ first_stays : (parts : List ℕ) (u v : ℕ) → slice_get parts 0 ≡ Some v �
 first_stays [] u v first = cc
 first_stays (w ∷ parts) u v first = first
 
-one_more : {X : Type 0} (xs : List X) (u : X) → length (xs ++ u ∷ []) ≡ length xs + 1
-one_more [] u = refl
-one_more (x ∷ xs) u = let more = one_more xs u in omega arith
-
 pub next_part : (names : List TextValue) (volumes v number : ℕ) (parts new : List ℕ) (u : ℕ) → new ≡ parts ++ u ∷ [] → All (λ w. w < volumes) parts → u < volumes
     → slice_get parts 0 ≡ Some v → length parts ≡ number → AreParts names v parts → IsPart names v number u
     → All (λ w. w < volumes) new × (slice_get new 0 ≡ Some v) × (length new ≡ number + 1) × AreParts names v new
 next_part names volumes v number parts new u now within below first count are is = rw now (
   All-append (λ w. w < volumes) parts (u ∷ []) within (All-cons (λ w. w < volumes) u [] below (All-nil (λ w. w < volumes))),
   first_stays parts u v first,
-  one_more parts u ∙ ap (λ (n : ℕ). n + 1) count,
+  length_push parts u ∙ ap (λ (n : ℕ). n + 1) count,
   parts_more names v parts u are (rw count is),
 )

@@ -1,5 +1,5 @@
-use Rattle.std.proofs.Common.{rules, ◌≡◌, ◌<◌, ◌+◌, ◌++◌, ◌∷◌, [], Some, length, slice_get, All}
-use Rattle.image_folder.specs.Parts.{AreParts, IsPart}
+use Rattle.std.proofs.Common.{rules, ◌≡◌, ◌<◌, ◌++◌, ◌∷◌, [], length}
+use Rattle.image_folder.specs.Parts.{IsPart}
 use Rattle.image_folder.proofs.More.{next_part}
 use Rattle.image_folder.proofs.naming.parts_in.Goals as goal
 
