@@ -6,13 +6,10 @@ use Rattle.generated.proofs.Terms.{Done, Finished, check, Op, Prepare, Snapshot,
 use Rattle.generated.proofs.Terms.{failed_in, await_last, closed, pending, refused, line, selected, volumes_of, has_no_volume, is_blocked, line_enabled}
 use Rattle.generated.proofs.Terms.{IsOrderly, Asked, Awaits, Prepares, Snapshots, Completes, Ends, IsAsked, Spot, Free, Stands, Waits, stage_next, volumes_next}
 use Rattle.generated.proofs.Terms.{spot_after, completes_sets, with_volumes}
-use Rattle.set_agenda.specs.declared.kind.Kind.TheVariants as kind
 use Rattle.requestor.specs.declared.session_call.SessionCall.TheVariants as call
-use Rattle.generated.proofs.CutRows.{HasCuts}
 use Rattle.generated.proofs.Standing.{session_at, IsPlace, IsAt}
 use Rattle.generated.proofs.Courses.{sound_prepared, sound_snapshot, sound_completing, sound_released}
-use Rattle.generated.proofs.Cuts.{cuts_followed, said_begun, now_is}
-use Rattle.generated.proofs.Known.{IsKnown, LeadsTo, goes, none_in, now_none, now_found, quiet_said, running_found, of_session, found_in}
+use Rattle.generated.proofs.Known.{IsKnown, LeadsTo, goes, none_in}
 use Rattle.generated.proofs.Steps.{goes_on, followed_volumes}
 
 -- where a set has a volume
@@ -37,7 +34,6 @@ prepares s n more k vs op mark st e on leads most h known =
       at = subst (IsAt s (Waits Started) k vs) (sym is)
           (goes_on s Started k vs c st (sound_prepared _ (takers (length s.writers) (selected s q st)) st.clock st.course h.sound) h.sets h.fine h.place.stage h.place.volumes (subst IsOrderly is known.next_orderly));
       same = ap (λ (x : State). x.volumes) is ∙ followed_volumes _ c st (sound_prepared _ (takers (length s.writers) (selected s q st)) st.clock st.course h.sound);
-      cuts = λ x. let found = found_in Started st refl h.place.stage known.orderly in let runs_now = running_found q st.course.outcome (in_progress st) found.row found.is (of_session st Started h.place.stage known.orderly) in subst (HasCuts s) (sym is) (cuts_followed s _ c st (sound_prepared _ (takers (length s.writers) (selected s q st)) st.clock st.course h.sound) known.orderly.newest x.count x.done (now_found (in_progress st) found.row c found.is (now_is (in_progress st) found.row st.course found.is x.now ∙ quiet_said st.course.agenda st.course.outcome h.place.is_busy runs_now ∙ sym (said_begun kind.Prepare _ [] st.clock _ runs_now))));
     }
 
 pub snapshots : (s : Plan) (n : ℕ) (more : List Asked) (k : ℕ) (vs : List ℕ) (op : Op) (mark : Mark) (st : State) → IsAsked s Snapshots op → line_enabled s st 0 op ≡ true → completes_sets (length s.volumes) n more (spot_after (Stands Prepared) k vs Snapshots) ≡ true → k ≤ n → IsAt s (Stands Prepared) k vs st → IsKnown n k st (line s 0 op mark st).1 → LeadsTo s n more st (line s 0 op mark st).1
@@ -54,7 +50,6 @@ snapshots s n more k vs op mark st e on leads most h known =
       at = subst (IsAt s (Waits Prepared) k vs) (sym is)
           (goes_on s Prepared k vs c st (sound_snapshot _ (volumes_of (in_progress st)) st.clock st.course h.sound) h.sets h.fine h.place.stage h.place.volumes (subst IsOrderly is known.next_orderly));
       same = ap (λ (x : State). x.volumes) is ∙ followed_volumes _ c st (sound_snapshot _ (volumes_of (in_progress st)) st.clock st.course h.sound);
-      cuts = λ x. let found = found_in Prepared st refl h.place.stage known.orderly in let runs_now = running_found q st.course.outcome (in_progress st) found.row found.is (of_session st Prepared h.place.stage known.orderly) in subst (HasCuts s) (sym is) (cuts_followed s _ c st (sound_snapshot _ (volumes_of (in_progress st)) st.clock st.course h.sound) known.orderly.newest x.count x.done (now_found (in_progress st) found.row c found.is (now_is (in_progress st) found.row st.course found.is x.now ∙ quiet_said st.course.agenda st.course.outcome h.place.is_busy runs_now ∙ sym (said_begun kind.Snapshot st.course.members (volumes_of (in_progress st)) st.clock st.course runs_now))));
     }
 
 pub completes : (s : Plan) (n : ℕ) (more : List Asked) (k : ℕ) (vs : List ℕ) (op : Op) (mark : Mark) (st : State) → IsAsked s Completes op → line_enabled s st 0 op ≡ true → completes_sets (length s.volumes) n more (spot_after (Stands Done) k vs Completes) ≡ true → k ≤ n → IsAt s (Stands Done) k vs st → IsKnown n k st (line s 0 op mark st).1 → LeadsTo s n more st (line s 0 op mark st).1
@@ -68,7 +63,6 @@ completes s n more k vs op mark st e on leads most h known =
       at = subst (IsAt s (Waits Done) k []) (sym is)
           (goes_on s Done k [] _ st (sound_completing _ st.clock st.course h.sound) h.sets h.fine h.place.stage tt (subst IsOrderly is known.next_orderly));
       same = ap (λ (x : State). x.volumes) is ∙ followed_volumes _ _ st (sound_completing _ st.clock st.course h.sound);
-      cuts = λ x. subst (HasCuts s) (sym is) (cuts_followed s _ _ st (sound_completing _ st.clock st.course h.sound) known.orderly.newest x.count x.done (now_none (in_progress st) _ (none_in Done st refl h.place.stage known.orderly)));
     }
 
 pub ends : (s : Plan) (n : ℕ) (more : List Asked) (k : ℕ) (vs : List ℕ) (op : Op) (mark : Mark) (st : State) → IsAsked s Ends op → line_enabled s st 0 op ≡ true → completes_sets (length s.volumes) n more (spot_after (Stands Finished) k vs Ends) ≡ true → k ≤ n → IsAt s (Stands Finished) k vs st → IsKnown n k st (line s 0 op mark st).1 → LeadsTo s n more st (line s 0 op mark st).1
@@ -84,7 +78,6 @@ ends s n more k vs op mark st e on leads most h known =
       at = subst (IsAt s Free k []) (sym is)
           (record { sets = h.sets; fine = h.fine; sound = sound_released _ st.course h.sound; place = (refl, refl) });
       same = ap (λ (x : State). x.volumes) is;
-      cuts = λ x. subst (HasCuts s) (sym is) (record { count = x.count; done = x.done; now = now_none (in_progress st) _ (none_in Finished st refl h.place.stage known.orderly) });
     }
 
 pub awaits : (s : Plan) (n : ℕ) (more : List Asked) (g : Stage) (k : ℕ) (vs : List ℕ) (op : Op) (mark : Mark) (st : State) → IsAsked s Awaits op → line_enabled s st 0 op ≡ true → completes_sets (length s.volumes) n more (spot_after (Waits g) k vs Awaits) ≡ true → k ≤ n → IsAt s (Waits g) k vs st → IsKnown n k st (line s 0 op mark st).1 → LeadsTo s n more st (line s 0 op mark st).1
@@ -93,10 +86,6 @@ awaits s n more g k vs op mark st e on leads most h known = by_place h.place
     awaited : (last : Option VssResult) → IsAt s (Stands (stage_next g)) k (volumes_next g vs) st → IsAt s (Stands (stage_next g)) k (volumes_next g vs) (await_last last st).1
     awaited None i = i
     awaited (Some why) i = i
-
-    unchanged_cuts : (last : Option VssResult) → HasCuts s st → HasCuts s (await_last last st).1
-    unchanged_cuts None x = x
-    unchanged_cuts (Some why) x = x
 
     unchanged : (last : Option VssResult) → (await_last last st).1.volumes ≡ st.volumes
     unchanged None = refl
@@ -123,5 +112,4 @@ awaits s n more g k vs op mark st e on leads most h known = by_place h.place
           at = subst (IsAt s (Stands (stage_next g)) k (volumes_next g vs)) (sym is)
               (awaited q.last (record { sets = h.sets; fine = h.fine; sound = h.sound; place = quiet }));
           same = ap (λ (x : State). x.volumes) is ∙ unchanged q.last;
-          cuts = λ x. subst (HasCuts s) (sym is) (unchanged_cuts q.last x);
         }

@@ -1,94 +1,113 @@
 -- At the end every set's image is kept on every volume.
-use Rattle.std.proofs.Common.{◌≡◌, ℕ, zero, suc, ◌+◌, ◌<◌, ◌≤◌, List, [], ◌∷◌, ◌++◌, Option, Some, None, refl, Bool, true, false, ap, sym, ◌∙◌, ◌==◌, subst, length, drop, arith, map}
-use Rattle.std.specs.Prelude.{is_some, cond, filter, slice_get, nat_le, ◌&&◌, ◌||◌, not, if◌then◌else◌}
-use Rattle.generated.proofs.Terms.{list_all, list_any, Order, Actor, Lane, Writer, Advance, Idle, Mark, Clean, Move, Image, sets_of, fresh, AreInTime, Scripted}
-use Rattle.generated.proofs.Terms.{scripted_answer, is_asking, sent, Op, Writes, Plan, LaneLine, lines_of, IsOp, IsRangedBy, line_of, Event, Line}
-use Rattle.generated.proofs.Terms.{Answer as AnswerEvent, Provider, State, SetRow, is_complete, kept, history_in, history_of, left_now, does, line, happens}
-use Rattle.generated.proofs.Terms.{order_of_writer, line_enabled, enabled, after, state, Run, begin, cursor, next_line, line_event, answer_event, script_event}
-use Rattle.generated.proofs.Terms.{event_of, act_of, acts, after_event, moved, run_from, run, event_enabled, none_can_act, may_move, allows, is_legal_move}
-use Rattle.generated.proofs.Terms.{is_legal_from, is_legal, faults, NumberedFrom, AreLive, is_live, has_failed, state-run, images_in_time, orderly, Asked}
-use Rattle.generated.proofs.Terms.{AreAsked, Spot, spot_after, completes_sets, is_full, IsSmooth, writes, is_write, and_left, and_right, live_at}
-use Rattle.writer_calls.specs.declared.answer.Answer.TheVariants.{Ok}
-use Rattle.scenario.specs.declared.line.Line.{Line as Does}
+use Rattle.std.proofs.Common.{◌≡◌, ℕ, zero, suc, ◌+◌, ◌<◌, ◌≤◌, List, [], ◌∷◌, ◌++◌, Option, Some, None, refl, Bool, true, false, ap, sym, ◌∙◌, ◌==◌, subst}
+use Rattle.std.proofs.Common.{length, arith, inl, inr}
+use Rattle.std.specs.Prelude.{is_some, filter, nat_lt, ◌⊎◌, ◌&&◌, ◌||◌, not, if◌then◌else◌}
+use Rattle.std.proofs.lemmas.Bool.{eq-eqb, eqb-true}
+use Rattle.std.proofs.lemmas.Grind.{common_steps}
+use Rattle.generated.proofs.Terms.{list_all, list_any, range_with_len, nat_tests, Move, Image, History, sets_of, point_in, AreInTime, AreLater, Group, Cut}
+use Rattle.generated.proofs.Terms.{Commit, Agenda, open_group, next_volume, is_among, Stage, Prepared, Plan, Event, Provider, State, SetRow, has_image}
+use Rattle.generated.proofs.Terms.{is_complete, in_progress, kept, history_of, left_now, runs, cut_set, image_made, step_made, volumes_of, after, state, Act}
+use Rattle.generated.proofs.Terms.{Run, begin, event_of, act_of, acts, after_event, moved, run_from, may_move, allows, is_legal_move, is_legal_from, is_legal}
+use Rattle.generated.proofs.Terms.{faults, NumberedFrom, IsOrderly, AreLive, is_live, has_failed, has_complete, kind_is, state-run, images_in_time, orderly}
+use Rattle.generated.proofs.Terms.{Place, Free, Stands, Waits, is_full, IsSmooth, and_left, and_right, live_at, true_not_false, complete_before}
+use Rattle.generated.proofs.Terms.{completes_imaged, as_many_after, snapshots, each_change}
+use Rattle.set_agenda.specs.declared.kind.Kind.TheVariants.{Snapshot}
+use Rattle.write_history.specs.History.{cut as history_cut}
 use Rattle.vss_model.specs.Trail.{is_complete as is_complete_trail}
-use Rattle.generated.proofs.Standing.{IsAt, IsOnWay}
-use Rattle.generated.proofs.CutRows.{is_cut, cuts_made, is_cut_or_open, HasCuts}
-use Rattle.generated.proofs.Courses.{length_map}
-use Rattle.generated.proofs.Images.{cuts_write, cuts_answer, cuts_step}
-use Rattle.generated.proofs.Known.{IsKnown}
-use Rattle.generated.proofs.Moves.{drop_at, all_at, after_enabled, IsReached, orderly_now, orderly_next, IsBefore, on_move, spot_few, spot_full, no_idle}
-use Rattle.generated.proofs.Requests.{requests}
-use Rattle.generated.proofs.Room.{few_images, live_within}
+use Rattle.generated.proofs.Standing.{IsStage, IsPlace, IsAt, IsOnWay}
+use Rattle.generated.proofs.Moves.{below_range, IsReached, orderly_now, IsBefore, on_move, spot_full}
+use Rattle.generated.proofs.Room.{live_within}
 use Rattle.generated.proofs.Runs.{clean_first, way_after, at_start, smooth_runs}
-use Rattle.generated.proofs.Volumes.{IsGrownIf, move_grown, cleared_same}
+use Rattle.generated.proofs.Volumes.{made_by, IsGrown, IsGrownIf, move_grown}
+
+-- ## a set that is complete has its image on each volume
+
+-- the place of a state whose agenda is a snapshot's
+record IsMaking (g : Stage) (vs : List ℕ) (st : State) : Type 0 where
+  stage : g ≡ Prepared
+  volumes : volumes_of (in_progress st) ≡ vs
+
+is_making : (g : Stage) (vs : List ℕ) (st : State) (a : Agenda) → IsStage g vs true st.session (runs st) st.sets → IsOrderly st → st.course.agenda ≡ Some a → a.kind ≡ Snapshot → IsMaking g vs st
+is_making g vs st a at o e k = grind arith
+
+all_among : (s : Plan) (c : ℕ) (p : Place) (k : ℕ) (vs : List ℕ) (st : State) (a : Agenda) (r : SetRow) → IsAt s p k vs st → is_full c p vs ≡ true → IsOrderly st → st.course.agenda ≡ Some a → a.kind ≡ Snapshot → in_progress st ≡ Some r
+    → (v : ℕ) → v < c → is_among v r.volumes ≡ true
+all_among s c Free k vs st a r h full o e f g v l = absurd (true_not_false (runs st) (ap is_some e) h.place.1)
+all_among s c (Stands x) k vs st a r h full o e f g v l = absurd (true_not_false (runs st) (ap is_some e) h.place.is_busy)
+all_among s c (Waits x) k vs st a r h full o e f g v l = by_place h.place
+  where
+    less : (a b : ℕ) → a < b → nat_lt a b ≡ true
+    less a b l = grind (arith, nat_tests)
+
+    by_place : IsPlace (Waits x) vs st.session (runs st) st.sets → is_among v r.volumes ≡ true
+    by_place (inr quiet) = absurd (true_not_false (runs st) (ap is_some e) quiet.is_busy)
+    by_place (inl busy) =
+        let making = is_making x vs st a busy o e f in
+        let own : r.volumes ≡ vs = ap volumes_of (sym g) ∙ making.volumes in
+        let is : list_all (λ u. is_among u vs) (range_with_len 0 c) ≡ true = subst (λ y. is_full c (Waits y) vs ≡ true) making.stage full in
+        subst (λ us. is_among v us ≡ true) (sym own) (below_range (λ u. is_among u vs) c v (less v c l) is)
+
+keeps_made : (m n : ℕ) (h : History) → has_image n h ≡ true → has_image n (history_cut m h) ≡ true
+keeps_made m n h e = first h.images e where
+  first : (images : List Image) → is_some (point_in n images) ≡ true → is_some (point_in n (images ++ record { set = m; point = length h.writes } ∷ [])) ≡ true
+  first [] f = absurd cc
+  first (i ∷ images) f = grind (arith, common_steps, first images)
+
+made_has : (n v : ℕ) (g : Option Group) (u : Option ℕ) (st : State) → has_image n (history_of st v) ≡ true → has_image n (history_of (step_made g u st) v) ≡ true
+made_has n v (Some Cut) u st h = cut_has (in_progress st) h where
+  cut_has : (o : Option SetRow) → has_image n (history_of st v) ≡ true → has_image n (history_of (cut_set o st) v) ≡ true
+  cut_has None h = h
+  cut_has (Some r) h = h
+made_has n v (Some Commit) u st h = image_has (in_progress st) u h where
+  image_has : (o : Option SetRow) (u : Option ℕ) → has_image n (history_of st v) ≡ true → has_image n (history_of (image_made o u st) v) ≡ true
+  image_has (Some r) (Some u) h = each_change (λ x y. has_image n x ≡ true → has_image n y ≡ true) (λ x f. f) (history_cut r.number) (keeps_made r.number n) u st.volumes v h
+  image_has _ _ h = h
+made_has n v _ u st h = h
+
+by_event : (n v : ℕ) (event : Event) (st : State) → has_image n (history_of st v) ≡ true → has_image n (history_of (made_by st event) v) ≡ true
+by_event n v Provider st h = made_has n v (open_group (left_now st)) (next_volume (left_now st)) st h
+by_event n v _ st h = h
+
+abbrev HasAll : Plan → State → Type 0
+HasAll s st = (n v : ℕ) → has_complete st.sets n ≡ true → v < length s.volumes → has_image n (history_of st v) ≡ true
+
+has_snapshot : (o : Option Agenda) → snapshots o ≡ true → (a : Agenda) × ((o ≡ Some a) × (a.kind ≡ Snapshot))
+has_snapshot None e = absurd cc
+has_snapshot (Some a) e = (a, (refl, kind_is a.kind e))
 
 -- ## every move keeps it
 
-write_cuts : (s : Plan) (n lane : ℕ) (op : Op) (l : Does) (mark : Mark) (k : ℕ) (st : State) → IsSmooth n s → IsReached s st → mark ≡ Clean → writes l ≡ true
-    → IsRangedBy (length s.source) s.volumes (length s.writers) op l → k ≤ n → length st.sets ≡ k → HasCuts s st → HasCuts s (does s lane op l mark st).1
-write_cuts s n lane op (Writes v b payload) mark k st smooth reached f e o most sets h = cuts_write s v _ mark st f (cleared_same s n v b k st smooth reached o.1 most sets) h
-write_cuts s n lane op _ mark k st smooth reached f e o most sets h = absurd cc
+module _ (s : Plan) (n : ℕ) (r : Run) (before : IsBefore s n r) where
+  all_after : (act : Act) (event : Event) → IsGrown s r.state (after s r.state act) event → HasAll s r.state → HasAll s (after s r.state act)
+  all_after act event grown h m v c l =
+      let so_far = before.reached.so_far in
+      by_way (complete_before s so_far act m (subst (λ (st : State). has_complete (after s st act).sets m ≡ true) before.reached.is c)) where
+        complete : (row : SetRow) → row.number ≡ m → has_complete (after s (state s before.reached.so_far) act).sets row.number ≡ true
+        complete row same = subst (λ k. has_complete (after s (state s before.reached.so_far) act).sets k ≡ true) (sym same)
+            (subst (λ (st : State). has_complete (after s st act).sets m ≡ true) before.reached.is c)
 
-own_cuts : (s : Plan) (n : ℕ) (r : Run) (m : Move) (l : LaneLine) (asked : List Asked) → IsBefore s n r → AreAsked s asked (l ∷ drop (suc (cursor r.moves 0)) (lines_of s 0)) → (spot : Spot) → completes_sets (length s.volumes) n asked (Some spot) ≡ true
-    → IsAt s spot.place spot.sets spot.volumes r.state → line_enabled s r.state 0 l.op ≡ true → HasCuts s r.state → HasCuts s (line s 0 l.op m.mark r.state).1
-own_cuts s n r m l [] before left spot leads at on h = absurd left
-own_cuts s n r m l (a ∷ more) before left spot leads at on h =
-    let known : IsKnown n spot.sets r.state (line s 0 l.op m.mark r.state).1 = record {
-      orderly = orderly_now s r.state before.reached;
-      next_orderly = orderly_next s r.state (Line 0 l.op) m.mark before.reached on;
-      few = before.smooth.few;
-      images = subst (λ st. (v : ℕ) → length (history_of st v).images ≤ length st.sets) (sym before.reached.is) (few_images s before.reached.so_far);
-    } in
-    (requests s n more spot.place spot.sets spot.volumes a l.op m.mark r.state left.0 on
-    (and_right (nat_le spot.sets n && is_full (length s.volumes) spot.place spot.volumes) (completes_sets (length s.volumes) n more (spot_after spot.place spot.sets spot.volumes a)) leads) (spot_few (length s.volumes) n (a ∷ more) spot leads) at known).cuts h
+        by_way : (has_complete (state s before.reached.so_far).sets m ≡ true) ⊎ ((row : SetRow) × ((in_progress (state s before.reached.so_far) ≡ Some row) × (row.number ≡ m)))
+            → has_image m (history_of (after s r.state act) v) ≡ true
+        by_way (inl was) =
+            subst (λ is. is_some (point_in m is) ≡ true) (sym (grown.images v)) (by_event m v event r.state (h m v (subst (λ (st : State). has_complete st.sets m ≡ true) (sym before.reached.is) was) l))
+        by_way (inr (row, (found, same))) =
+            let spot = before.way.spot in
+            let done = completes_imaged s before.reached.so_far act row found (complete row same) in
+            let runs_now = has_snapshot r.state.course.agenda (subst (λ (st : State). snapshots st.course.agenda ≡ true) (sym before.reached.is) done.0) in
+            let among = all_among s (length s.volumes) spot.place spot.sets spot.volumes r.state runs_now.0 row before.way.at (spot_full (length s.volumes) n before.way.asked spot before.way.leads)
+            (orderly_now s r.state before.reached) runs_now.1.0 runs_now.1.1 (ap in_progress before.reached.is ∙ found) v l in
+            subst (λ k. has_image k (history_of (after s r.state act) v) ≡ true) same
+            (subst (λ (st : State). has_image row.number (history_of (after s st act) v) ≡ true) (sym before.reached.is)
+            (done.1 v among (subst (λ k. v < k) (sym (as_many_after s before.reached.so_far act)) l)))
 
-HasCutsIf : Plan → Run → Move → Option Event → Type 0
-HasCutsIf s r m None = ⊥
-HasCutsIf s r m (Some event) = HasCuts s (after s r.state (act_of m.mark event))
-
-by_after : (s : Plan) (r : Run) (m : Move) (event : Event) → enabled s r.state event ≡ true → HasCuts s (happens s event m.mark r.state).1 → HasCutsIf s r m (Some event)
-unfolding HasCutsIf
-by_after s r m event e h = subst (HasCuts s) (sym (after_enabled s r.state event m.mark e)) h
-
-lane_cuts : (s : Plan) (n : ℕ) (r : Run) (m : Move) (i : ℕ) (x : Option LaneLine) → IsBefore s n r → m.mark ≡ Clean → next_line s r i ≡ x → event_enabled s r (line_event i x) ≡ true → HasCuts s r.state → HasCutsIf s r m (line_event i x)
-lane_cuts s n r m i None before e f on h = absurd cc
-lane_cuts s n r m zero (Some l) before e f on h =
-    by_after s r m (Line 0 l.op) on
-    (own_cuts s n r m l before.way.asked before (subst (AreAsked s before.way.asked) (drop_at (lines_of s 0) (cursor r.moves 0) l f) before.way.left) before.way.spot before.way.leads before.way.at on h)
-lane_cuts s n r m (suc i) (Some l) before e f on h =
-    let known = all_at (λ (x : LaneLine). (is_write x.op ≡ true) × IsOp s x.op) (lines_of s (suc i)) (cursor r.moves (suc i)) l (before.smooth.writes i) f in
-    by_after s r m (Line (suc i) l.op) on
-    (write_cuts s n (suc i) l.op (line_of l.op) m.mark before.way.spot.sets r.state before.smooth before.reached e known.0 known.1 (spot_few (length s.volumes) n before.way.asked before.way.spot before.way.leads) before.way.at.sets h)
-
-writer_cuts : (s : Plan) (n : ℕ) (r : Run) (m : Move) (w : ℕ) (x : Option Order) → IsBefore s n r → order_of_writer r.state w ≡ x → event_enabled s r (script_event s r.state w x) ≡ true → HasCuts s r.state → HasCutsIf s r m (script_event s r.state w x)
-writer_cuts s n r m w None before f on h = absurd cc
-writer_cuts s n r m w (Some o) before f on h =
-    let asked : is_some (order_of_writer r.state w) ≡ true = ap is_some f in
-    subst (λ (rows : List Scripted). HasCutsIf s r m (answer_event w (scripted_answer rows o (sent r.state.course w o)))) (sym (before.smooth.scripts w))
-    (by_after s r m (AnswerEvent w Ok) asked (cuts_answer s _ w r.state asked before.way.at.sound (orderly_now s r.state before.reached) h))
-
-move_cuts : (s : Plan) (n : ℕ) (r : Run) (m : Move) (a : Actor) → IsBefore s n r → m.actor ≡ a → m.mark ≡ Clean → may_move s r a ≡ true → length r.state.volumes ≡ length s.volumes → HasCuts s r.state → HasCutsIf s r m (event_of s r a)
-move_cuts s n r m (Lane i) before e f may count h = lane_cuts s n r m i (next_line s r i) before f refl may h
-move_cuts s n r m (Writer w) before e f may count h = writer_cuts s n r m w (order_of_writer r.state w) before refl may h
-move_cuts s n r m Advance before e f may count h =
-    let spot = before.way.spot in
-    by_after s r m Provider may
-    (subst (λ mark. HasCuts s (happens s Provider mark r.state).1) (sym f)
-    (cuts_step s _ spot.place spot.sets spot.volumes r.state before.reached may before.way.at.sound before.way.at (spot_full (length s.volumes) n before.way.asked spot before.way.leads) count h))
-move_cuts s n r m Idle before e f may count h =
-    absurd (no_idle s n r before.smooth before.reached before.way.at.sound (and_left (is_asking (left_now r.state)) (none_can_act s r) may) (and_right (is_asking (left_now r.state)) (none_can_act s r) may))
+  all_more : (m : Move) (x : Option Event) → IsGrownIf s r m x → HasAll s r.state → HasAll s (after_event s r.state x m.mark)
+  unfolding IsGrownIf
+  all_more m None grown h = absurd grown
+  all_more m (Some event) grown h = all_after (act_of m.mark event) event grown h
 
 -- ## all moves
 
-pub record HoldsImages (s : Plan) (r : Run) : Type 0 where
-  pub count : length r.state.volumes ≡ length s.volumes
-  pub cuts : HasCuts s r.state
-
-images_more : (s : Plan) (r : Run) (m : Move) (x : Option Event) → IsGrownIf s r m x → HasCutsIf s r m x → HoldsImages s r → HoldsImages s (record { state = after_event s r.state x m.mark; moves = r.moves ++ m ∷ [] })
-unfolding IsGrownIf HasCutsIf
-images_more s r m x grown cuts h = grind arith
-
-all_images : (s : Plan) (n : ℕ) (r : Run) (ms : List Move) → IsSmooth n s → IsOnWay s n r → HoldsImages s r → is_legal_from s r ms ≡ true → faults ms ≡ 0 → HoldsImages s (run_from s r ms)
+all_images : (s : Plan) (n : ℕ) (r : Run) (ms : List Move) → IsSmooth n s → IsOnWay s n r → HasAll s r.state → is_legal_from s r ms ≡ true → faults ms ≡ 0 → HasAll s (run_from s r ms).state
 all_images s n r [] smooth way h legal clean = h
 all_images s n r (m ∷ ms) smooth way h legal clean =
     let reached : IsReached s r.state = record { so_far = way.so_far; is = way.reached } in
@@ -96,54 +115,76 @@ all_images s n r (m ∷ ms) smooth way h legal clean =
     let marks = clean_first m ms clean in
     let may = and_left (may_move s r m.actor) (allows s r (event_of s r m.actor) m.mark) (and_left (is_legal_move s r m) (is_legal_from s (moved s r m) ms) legal) in
     all_images s n (moved s r m) ms smooth (way_after s n r m (event_of s r m.actor) reached (on_move s n r m m.actor before refl marks.first may))
-    (images_more s r m (event_of s r m.actor) (move_grown s n r m m.actor before refl marks.first may) (move_cuts s n r m m.actor before refl marks.first may h.count h.cuts) h)
+    (all_more s n r before m (event_of s r m.actor) (move_grown s n r m m.actor before refl marks.first may) h)
     (and_right (is_legal_move s r m) (is_legal_from s (moved s r m) ms) legal) marks.rest
-
-fresh_images : {X : Type 0} (rows : List X) (v : ℕ) → length (history_in (slice_get (map (λ _. fresh) rows) v)).images ≡ 0
-fresh_images [] zero = refl
-fresh_images [] (suc v) = refl
-fresh_images (x ∷ rows) zero = refl
-fresh_images (x ∷ rows) (suc v) = fresh_images rows v
-
-pub run_images : (s : Plan) (n : ℕ) (trail : List Move) → IsSmooth n s → is_legal s trail ≡ true → faults trail ≡ 0 → HoldsImages s (run s trail)
-run_images s n trail smooth legal clean =
-    all_images s n (begin s) trail smooth (at_start s n smooth)
-    (record { count = length_map _ s.volumes; cuts = record { count = λ v l. fresh_images s.volumes v; done = refl; now = tt } }) legal clean
 
 -- ## at the end
 
-all_cut : (rows : List SetRow) → list_all is_cut_or_open rows ≡ true → list_all (λ r. is_complete r.result) rows ≡ true → cuts_made rows ≡ length rows
-all_cut [] h e = refl
-all_cut (r ∷ rows) h e =
-    let later = all_cut rows (and_right (is_cut_or_open r) (list_all is_cut_or_open rows) h) (and_right (is_complete r.result) _ e) in
-    let own : cond (is_cut r) 1 0 ≡ 1 = ap {B = ℕ} (λ b. cond b 1 0) (cut_now (is_complete r.result) (is_cut r) (and_left (is_cut_or_open r) (list_all is_cut_or_open rows) h) (and_left (is_complete r.result) _ e)) in
-    omega (arith, later, own)
-  where
-    cut_now : (a b : Bool) → (not a || b) ≡ true → a ≡ true → b ≡ true
-    cut_now true b e f = e
-    cut_now false b e f = absurd cc
+complete_at : (j n : ℕ) (rows : List SetRow) → NumberedFrom j rows → list_all (λ r. is_complete r.result) rows ≡ true → j ≤ n → n < j + length rows → has_complete rows n ≡ true
+complete_at j n [] numbered e l k = absurd (omega (arith, l, k))
+complete_at j n (r ∷ rows) numbered e l k = by_number (r.number == n) refl (λ more. complete_at (j + 1) n rows numbered.1 (and_right (is_complete r.result) _ e) more (omega (arith, k))) where
+  next : (a b c : ℕ) → b ≤ a → c ≡ b → (c == a) ≡ false → b + 1 ≤ a
+  next a b c l e f = grind arith
+
+  by_number : (b : Bool) → (r.number == n) ≡ b → (j + 1 ≤ n → has_complete rows n ≡ true) → (((r.number == n) && is_complete r.result) || has_complete rows n) ≡ true
+  by_number true f later = grind (arith, and_left)
+  by_number false f later = let found = later (next n j r.number l numbered.0 f) in grind (arith, common_steps)
 
 -- numbered from k on
 abbrev pub numbers_from : ℕ → ℕ → List ℕ
 numbers_from k zero = []
 numbers_from k (suc m) = k ∷ numbers_from (k + 1) m
 
--- images that rise within so many numbers as there are images have just these numbers
-just_these : (rows : List SetRow) (writes k : ℕ) (images : List Image) → NumberedFrom 1 rows → AreLive rows images → AreInTime writes images → k + length images ≡ length rows + 1
-    → ((i : Image) (is : List Image) → images ≡ i ∷ is → k ≤ i.set) → sets_of images ≡ numbers_from k (length images)
-just_these rows writes k [] numbered live time e low = refl
-just_these rows writes k (i ∷ images) numbered live time e low =
-    let above = low i images refl in
-    let top = rising_top rows writes i images numbered live time in
-    let own : i.set ≡ k = omega (arith, above, top, e) in
-    ap (λ x. x ∷ sets_of images) own ∙ ap (λ xs. k ∷ xs) (just_these rows writes (k + 1) images numbered live.1 time.2 (omega (arith, e)) (next images time))
-  where
-    rising_top : (rows : List SetRow) (writes : ℕ) (i : Image) (images : List Image) → NumberedFrom 1 rows → AreLive rows (i ∷ images) → AreInTime writes (i ∷ images) → i.set + length images ≤ length rows
-    rising_top rows writes i images numbered live time = Rattle.generated.proofs.Room.rising rows writes i images numbered live time
+-- images that rise, and are all those of so many numbers, have just these
+just_these : (writes k m : ℕ) (images : List Image) → AreInTime writes images → ((i : Image) (is : List Image) → images ≡ i ∷ is → k ≤ i.set)
+    → ((n : ℕ) → is_some (point_in n images) ≡ true → n < k + m) → ((n : ℕ) → k ≤ n → n < k + m → is_some (point_in n images) ≡ true) → sets_of images ≡ numbers_from k m
+just_these writes k zero [] time low high all = refl
+just_these writes k (suc m) [] time low high all = absurd (none (all k (omega arith) (omega arith))) where
+  none : false ≡ true → ⊥
+  none e = cc
+just_these writes k zero (i ∷ images) time low high all = absurd (empty k i.set (low i images refl) (high i.set (own i.set (point_in i.set images)))) where
+  empty : (a b : ℕ) → a ≤ b → b < a + 0 → ⊥
+  empty a b l h = omega (arith, l, h)
 
-    next : (js : List Image) → AreInTime writes (i ∷ js) → (j : Image) (is : List Image) → js ≡ j ∷ is → k + 1 ≤ j.set
-    next [] t j is f = absurd cc
-    next (x ∷ xs) t j is f = let same : x ≡ j = cc in let less = t.1.0 in let own = ap (λ (y : Image). y.set) same in let above = low i images refl in omega (arith, less, own, above)
+  own : (n : ℕ) (o : Option ℕ) → is_some (if n == n then Some i.point else o) ≡ true
+  own n o = grind (arith, eq-eqb)
+just_these writes k (suc m) (i ∷ images) time low high all =
+    let own = first (i.set == k) refl in
+    ap (λ x. x ∷ sets_of images) own ∙ ap (λ xs. k ∷ xs) (just_these writes (k + 1) m images time.2 (next images time) (λ n e. high_next n (k + m) (high n (later n e))) (λ n l h. rest n l h own)) where
+      high_next : (n a : ℕ) → n < k + suc m → n < k + 1 + m
+      high_next n a l = omega (arith, l)
+
+      later : (n : ℕ) → is_some (point_in n images) ≡ true → is_some (if i.set == n then Some i.point else point_in n images) ≡ true
+      later n e = by_test (i.set == n) where
+        by_test : (b : Bool) → is_some (if b then Some i.point else point_in n images) ≡ true
+        by_test true = refl
+        by_test false = e
+
+      none_earlier : (n : ℕ) (js : List Image) → AreLater i js → n < i.set → is_some (point_in n js) ≡ true → ⊥
+      none_earlier n [] h l e = cc
+      none_earlier n (j ∷ js) h l e = by_test (j.set == n) refl e (λ g. none_earlier n js h.2 l g) where
+        by_test : (b : Bool) → (j.set == n) ≡ b → is_some (if b then Some j.point else point_in n js) ≡ true → (is_some (point_in n js) ≡ true → ⊥) → ⊥
+        by_test true f g later = let same = eqb-true j.set n f in let above = h.0 in omega (arith, same, above, l)
+        by_test false f g later = later g
+
+      first : (b : Bool) → (i.set == k) ≡ b → i.set ≡ k
+      first true e = eqb-true i.set k e
+      first false e =
+          let has : is_some (if i.set == k then Some i.point else point_in k images) ≡ true = all k (omega arith) (omega arith) in
+          absurd (none_earlier k images time.1 (less k i.set (low i images refl) e) (subst (λ b. is_some (if b then Some i.point else point_in k images) ≡ true) e has)) where
+            less : (a b : ℕ) → a ≤ b → (b == a) ≡ false → a < b
+            less a b l e = grind arith
+
+      next : (js : List Image) → AreInTime writes (i ∷ js) → (j : Image) (is : List Image) → js ≡ j ∷ is → k + 1 ≤ j.set
+      next [] t j is f = absurd cc
+      next (x ∷ xs) t j is f = let same : x ≡ j = cc in let less = t.1.0 in let own = ap (λ (y : Image). y.set) same in let above = low i images refl in omega (arith, less, own, above)
+
+      rest : (n : ℕ) → k + 1 ≤ n → n < k + 1 + m → i.set ≡ k → is_some (point_in n images) ≡ true
+      rest n l h e =
+          let has : is_some (if i.set == n then Some i.point else point_in n images) ≡ true = all n (omega (arith, l)) (omega (arith, h)) in
+          subst (λ b. is_some (if b then Some i.point else point_in n images) ≡ true) (apart i.set k n e l) has where
+            apart : (a b c : ℕ) → a ≡ b → b + 1 ≤ c → (a == c) ≡ false
+            apart a b c e l = grind arith
 
 kept_one : (rows : List SetRow) (n : ℕ) → list_all (λ r. is_complete r.result) rows ≡ true → is_live rows n ≡ true → list_any (λ r. (r.number == n) && is_complete r.result) rows ≡ true
 kept_one [] n e h = absurd cc
@@ -170,16 +211,24 @@ pub keeps_images : (n : ℕ) (s : Plan) (trail : List Move) → IsSmooth n s →
 keeps_images n s trail smooth legal complete clean v l =
     let st = state s (acts s trail) in
     let done = smooth_runs n s trail smooth legal complete clean in
-    let cuts : HasCuts s st = subst (HasCuts s) (state-run s trail) (run_images s n trail smooth legal clean).cuts in
     let order = orderly s (acts s trail) in
     let images = (history_of st v).images in
     let live = live_at st.sets st.volumes v order.live in
-    let count : length images ≡ n = cuts.count v l ∙ all_cut st.sets cuts.done done.complete ∙ done.count in
+    let all : HasAll s st = subst (HasAll s) (state-run s trail) (all_images s n (begin s) trail smooth (at_start s n smooth) (λ m u c l. absurd cc) legal clean) in
     let sets = done.count in
     ap sets_of (kept_all st.sets images done.complete live)
-    ∙ just_these st.sets _ 1 images order.numbered live (images_in_time s (acts s trail) v) (omega (arith, count, sets)) (λ i is e. first i is e live)
-    ∙ ap (numbers_from 1) count
+    ∙ just_these _ 1 n images (images_in_time s (acts s trail) v) (λ i is e. first i is e live)
+    (λ m e. let b = (live_within 1 m st.sets order.numbered (image_live st.sets images m live e)).below in omega (arith, b, sets))
+    (λ m h k. all m v (complete_at 1 m st.sets order.numbered done.complete h (omega (arith, k, sets))) l)
   where
+    image_live : (rows : List SetRow) (images : List Image) (m : ℕ) → AreLive rows images → is_some (point_in m images) ≡ true → is_live rows m ≡ true
+    image_live rows [] m h e = absurd cc
+    image_live rows (i ∷ images) m h e = by_test (i.set == m) refl e (λ g. image_live rows images m h.1 g) where
+      by_test : (b : Bool) → (i.set == m) ≡ b → is_some (if b then Some i.point else point_in m images) ≡ true → (is_some (point_in m images) ≡ true → is_live rows m ≡ true)
+          → is_live rows m ≡ true
+      by_test true f g later = subst (λ x. is_live rows x ≡ true) (eqb-true i.set m f) h.0
+      by_test false f g later = later g
+
     first : (i : Image) (is : List Image) → (history_of (state s (acts s trail)) v).images ≡ i ∷ is → AreLive (state s (acts s trail)).sets (history_of (state s (acts s trail)) v).images → 1 ≤ i.set
     first i is e live =
         let h : AreLive (state s (acts s trail)).sets (i ∷ is) = subst (AreLive (state s (acts s trail)).sets) e live in

@@ -1,11 +1,9 @@
 pub mod Terms
 pub mod Sound
 pub mod Standing
-pub mod CutRows
 pub mod Puts
 pub mod Courses
 pub mod Steps
-pub mod Cuts
 pub mod Known
 pub mod SetLines
 pub mod AgendaLines
@@ -16,7 +14,6 @@ pub mod Moves
 pub mod Runs
 pub mod Generated
 pub mod Volumes
-pub mod Images
 pub mod Kept
 pub mod Contents
 pub mod Ending

@@ -3,17 +3,15 @@ use Rattle.std.proofs.Common.{◌≡◌, ℕ, ◌+◌, ◌≤◌, List, [], ◌�
 use Rattle.std.specs.Prelude.{option_map, nat_lt, nat_le, ◌&&◌, not, if◌then◌else◌}
 use Rattle.generated.proofs.Terms.{nat_tests, and_from, AppRollback, context_of_number, SetOutcome, VssResult, Mark, is_among, gathered, Naming, IsNotFound}
 use Rattle.generated.proofs.Terms.{IsNotSelectable, IsNamedAlready, naming, Opened, Gathered, Started, context_of, Op, Gather, Component, Start, Add, Plan}
-use Rattle.generated.proofs.Terms.{token, State, SetRow, is_running, in_progress, history_of, followed, change_set, add_to, add, named_as, called, line}
-use Rattle.generated.proofs.Terms.{is_disabled, known_metas, volumes_of, new_set, new_number, with_volume, add_refusal, line_enabled, has_failed, IsOrderly}
-use Rattle.generated.proofs.Terms.{find-map, find-append_new, Asked, Begins, Gathers, Names, Starts, Adds, IsAsked, Free, Stands, Waits, spot_after}
-use Rattle.generated.proofs.Terms.{completes_sets, added, and_left, and_right}
+use Rattle.generated.proofs.Terms.{token, State, SetRow, is_running, history_of, followed, change_set, add_to, add, named_as, called, line, is_disabled}
+use Rattle.generated.proofs.Terms.{known_metas, volumes_of, new_set, new_number, with_volume, add_refusal, line_enabled, has_failed, IsOrderly, find-map}
+use Rattle.generated.proofs.Terms.{find-append_new, Asked, Begins, Gathers, Names, Starts, Adds, IsAsked, Free, Stands, Waits, spot_after, completes_sets}
+use Rattle.generated.proofs.Terms.{added, and_left, and_right}
 use Rattle.component_doc.specs.Selection.{Names as NamesPair}
 use Rattle.requestor.specs.declared.session_call.SessionCall.TheVariants as call
-use Rattle.generated.proofs.CutRows.{is_cut, is_cut_or_open, IsNow, HasCuts}
 use Rattle.generated.proofs.Standing.{session_at, none_failed, IsAt}
 use Rattle.generated.proofs.Courses.{length_map, sound_gathered, less_is}
-use Rattle.generated.proofs.Cuts.{cuts_followed}
-use Rattle.generated.proofs.Known.{IsKnown, LeadsTo, goes, as_line, none_in, now_none, now_found, quiet_said, running_early, of_session, cuts_snoc, done_snoc, cuts_mapped, done_mapped, now_mapped, found_in}
+use Rattle.generated.proofs.Known.{IsKnown, LeadsTo, goes, as_line, none_in, found_in}
 use Rattle.generated.proofs.Steps.{goes_on, followed_volumes}
 
 -- ## the lines
@@ -37,7 +35,6 @@ gathers s n more k vs op mark st e on leads most h known =
       at = subst (IsAt s (Waits Opened) k []) (sym is)
           (goes_on s Opened k [] _ st (sound_gathered _ (is_disabled s st) st.clock st.course h.sound) h.sets h.fine h.place.stage tt (subst IsOrderly is known.next_orderly));
       same = ap (λ (x : State). x.volumes) is ∙ followed_volumes _ _ st (sound_gathered _ (is_disabled s st) st.clock st.course h.sound);
-      cuts = λ x. subst (HasCuts s) (sym is) (cuts_followed s _ _ st (sound_gathered _ (is_disabled s st) st.clock st.course h.sound) known.orderly.newest x.count x.done (now_none (in_progress st) _ (none_in Opened st refl h.place.stage known.orderly)));
     }
 
 pub names : (s : Plan) (n : ℕ) (more : List Asked) (w k : ℕ) (vs : List ℕ) (op : Op) (mark : Mark) (st : State) → IsAsked s (Names w) op → line_enabled s st 0 op ≡ true → completes_sets (length s.volumes) n more (spot_after (Stands Gathered) k vs (Names w)) ≡ true → k ≤ n → IsAt s (Stands Gathered) k vs st → IsKnown n k st (line s 0 op mark st).1 → LeadsTo s n more st (line s 0 op mark st).1
@@ -51,15 +48,8 @@ names s n more w k vs op mark st e on leads most h known =
       leads = leads;
       at = subst (IsAt s (Stands Gathered) k []) (sym is) (by_naming x);
       same = ap (λ (x : State). x.volumes) is ∙ by_naming_volumes x;
-      cuts = λ y. subst (HasCuts s) (sym is) (by_naming_cuts x y);
     }
   where
-    by_naming_cuts : (x : Naming) → HasCuts s st → HasCuts s (named_as x st).1
-    by_naming_cuts IsNotFound y = y
-    by_naming_cuts IsNotSelectable y = y
-    by_naming_cuts IsNamedAlready y = y
-    by_naming_cuts (NamesPair explicit) y = record { count = y.count; done = y.done; now = y.now }
-
     by_naming_volumes : (x : Naming) → (named_as x st).1.volumes ≡ st.volumes
     by_naming_volumes IsNotFound = refl
     by_naming_volumes IsNotSelectable = refl
@@ -102,7 +92,6 @@ starts s n more k vs op mark st e on leads most h known =
             };
           });
       same = ap (λ (x : State). x.volumes) is;
-      cuts = λ x. subst (HasCuts s) (sym is) (record { count = λ v l. x.count v l ∙ sym (cuts_snoc st.sets new refl); done = done_snoc st.sets new refl x.done; now = now_found _ new st.course (find-append_new st.sets new (none_in Gathered st refl h.place.stage known.orderly) refl) (sym (quiet_said st.course.agenda st.course.outcome h.place.is_busy (running_early q st.course.outcome (in_progress st) (none_in Gathered st refl h.place.stage known.orderly) refl (of_session st Gathered h.place.stage known.orderly)))) });
     }
 
 no_refusal : (a b c : Bool) (x y z : VssResult) → a ≡ false → b ≡ false → c ≡ false → (if a then Some x else if b then Some y else if c then Some z else None) ≡ None
@@ -125,12 +114,6 @@ fine_mapped f same (r ∷ rows) = ap (λ (x : SetOutcome). not (has_failed x) &&
 
 changed_result : (b : Bool) (v : ℕ) (r : SetRow) → (if b then with_volume v r else r).result ≡ r.result
 changed_result b v r = grind arith
-
-changed_cut : (b : Bool) (v : ℕ) (r : SetRow) → is_cut (if b then with_volume v r else r) ≡ is_cut r
-changed_cut b v r = grind arith
-
-changed_open : (b : Bool) (v : ℕ) (r : SetRow) → is_cut_or_open (if b then with_volume v r else r) ≡ is_cut_or_open r
-changed_open b v r = grind arith
 
 pub adds : (s : Plan) (n : ℕ) (more : List Asked) (v k : ℕ) (vs : List ℕ) (op : Op) (mark : Mark) (st : State) → IsAsked s (Adds v) op → line_enabled s st 0 op ≡ true → completes_sets (length s.volumes) n more (spot_after (Stands Started) k vs (Adds v)) ≡ true → k ≤ n → IsAt s (Stands Started) k vs st → IsKnown n k st (line s 0 op mark st).1 → LeadsTo s n more st (line s 0 op mark st).1
 adds s n more v k vs op mark st e on leads most h known =
@@ -164,7 +147,6 @@ adds s n more v k vs op mark st e on leads most h known =
             };
           });
       same = ap (λ (x : State). x.volumes) is;
-      cuts = λ x. subst (HasCuts s) (sym is) (record { count = λ u l. x.count u l ∙ sym (cuts_mapped _ (λ y. changed_cut (y.number == r.number) v y) st.sets); done = done_mapped _ (λ y. changed_open (y.number == r.number) v y) st.sets ∙ x.done; now = subst (λ o. IsNow o st.course) (sym (find-map _ (λ y. ap is_running (changed_result (y.number == r.number) v y)) st.sets)) (now_mapped _ (in_progress st) st.course (λ y. changed_cut (y.number == r.number) v y) x.now) });
     }
   where
     own_number : (a : ℕ) → (a == a) ≡ true

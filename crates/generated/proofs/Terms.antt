@@ -58,7 +58,7 @@ pub use Rattle.scenario.specs.declared.span.Span.{Span}
 pub use Rattle.scenario.specs.declared.volume_row.VolumeRow.{VolumeRow}
 pub use Rattle.serde_json.specs.Data.{Data, array, boolean, item, member, no_items, no_members, number, object, string, unsigned}
 pub use Rattle.set_agenda.specs.Agenda.{Agenda, Open, all_say, groups_left, has_said, is_among, is_asked, is_asking, is_orders, is_snapshot, is_working, left}
-pub use Rattle.set_agenda.specs.Agenda.{left_from, members_of, next_member, open_group, open_order, open_place, order_if, places, plain, same_place, waited_for}
+pub use Rattle.set_agenda.specs.Agenda.{left_from, members_of, next_member, next_volume, open_group, open_order, open_place, order_if, places, plain, same_place, waited_for}
 pub use Rattle.set_agenda.specs.Agenda.{with_group, writers_at}
 pub use Rattle.set_agenda.specs.Course.{Course, answered, answered_to, change_at, completing, decided, gathered, has_row_failed, is_decisive, member_if}
 pub use Rattle.set_agenda.specs.Course.{members_from, prepared, sent, settled_in, snapshot_begun, stepped}
@@ -81,19 +81,18 @@ pub use Rattle.std.specs.List.{concat, flat_map, list_all, list_any, range_with_
 pub use Rattle.std.specs.Str.{bytes_eq}
 unfoldable pub use Rattle.std.specs.Str.{chars, is_utf8}
 pub use Rattle.vss_model.proofs.Appending.{moves-run, state-append, state-run}
-pub use Rattle.vss_model.proofs.AtCut.{CutsNow, cut_group, cut_is_open, cuts, later_places}
 pub use Rattle.vss_model.proofs.CourseCalls.{not_ok_of_ok}
-pub use Rattle.vss_model.proofs.CutStep.{has_set, step_made_same}
+pub use Rattle.vss_model.proofs.Completed.{complete_before, completes_imaged, as_many_after, snapshots}
 pub use Rattle.vss_model.proofs.Failures.{live_at}
 pub use Rattle.vss_model.proofs.GoesOn.{cursor_more, cursor_same}
 pub use Rattle.vss_model.proofs.OneCut.{all_taken, images_in_time}
 pub use Rattle.vss_model.proofs.Orderly.{find-append_new, find-map, find-settled_over, find-settled_running, newest-map, true_not_false}
 pub use Rattle.vss_model.proofs.OrderlyActs.{orderly, same_changed}
-pub use Rattle.vss_model.proofs.Rows.{apart, apart_back, found_above}
-pub use Rattle.vss_model.proofs.StateForm.{add, add_to, await_last, change_set, cleared, concluded, cut_set, does, failed_in, happens, line, named_as, pending}
+pub use Rattle.vss_model.proofs.Rows.{apart, has_complete, kind_is}
+pub use Rattle.vss_model.proofs.StateForm.{add, add_to, await_last, change_set, cleared, concluded, cut_set, does, failed_in, happens, image_made, line, named_as, pending}
 pub use Rattle.vss_model.proofs.StateForm.{put, refused, session_line, step_made, with_room_if}
 unfoldable pub use Rattle.vss_model.proofs.StateForm.{called, closed, followed, write}
-pub use Rattle.vss_model.proofs.Volumes.{as_many_change, as_many_cut}
+pub use Rattle.vss_model.proofs.Volumes.{as_many_change, each_change}
 pub use Rattle.vss_model.specs.Acts.{Act, enabled, is_blocked, line_enabled, order_of_writer, state}
 unfoldable pub use Rattle.vss_model.specs.Acts.{after}
 pub use Rattle.vss_model.specs.Effects.{evicted, evicted_at, evicted_for, volumes_losing}
@@ -103,7 +102,7 @@ pub use Rattle.vss_model.specs.Images.{has_lost_image, set_loses_image}
 pub use Rattle.vss_model.specs.Sessions.{add_refusal, has_no_volume, is_disabled, known_metas, new_number, new_set, selected, volumes_of, with_volume}
 pub use Rattle.vss_model.specs.State.{SetRow, State, has_image, history_in, history_of, in_progress, is_complete, is_running, kept, left_now, row_of_writer}
 pub use Rattle.vss_model.specs.State.{start}
-pub use Rattle.vss_model.specs.Steps.{cut_each, cut_if, row_cut, with_cut}
+pub use Rattle.vss_model.specs.Steps.{row_cut, with_cut}
 pub use Rattle.vss_model.specs.Trail.{Run, act_of, acts, acts_from, acts_if, after_event, allows, answer_event, begin, can_act, cursor, event_enabled, event_of}
 pub use Rattle.vss_model.specs.Trail.{faults, is_fault, is_lane, is_legal, is_legal_from, is_legal_move, is_over, is_used_up, line_event, may_move, moved}
 pub use Rattle.vss_model.specs.Trail.{next_line, none_can_act, run, run_from, script_event}
@@ -120,7 +119,7 @@ pub use Rattle.vss_names.specs.declared.vss_result.VssResult.TheVariants.{AsyncC
 pub use Rattle.vss_report.proofs.Joined.{both, first_of_both, second_of_both}
 pub use Rattle.vss_report.proofs.LegibleWords.{are_digits, number_back}
 unfoldable pub use Rattle.vss_report.specs.Report.{effects_text, move_text}
-pub use Rattle.write_history.specs.History.{AreInTime, History, Image, Write, after_set, content, contents, fresh, last_bytes, names, sets_of, written}
+pub use Rattle.write_history.specs.History.{AreInTime, AreLater, History, Image, Write, after_set, content, contents, fresh, last_bytes, names, point_in, sets_of, written}
 pub use Rattle.write_history.specs.Slots.{Placed, evicted_of, evicted_up_to, gone_up_to, group_used, lacks_slot, needs_slot, needs_slot_in, used, writes_since}
 pub use Rattle.write_history.specs.declared.actor.Actor.{Actor}
 pub use Rattle.write_history.specs.declared.actor.Actor.TheVariants.{Advance, Idle, Lane, Writer}

@@ -1,17 +1,19 @@
--- What each move of such a run does to the volumes: a write adds itself to one, the Cut step cuts images, and nothing else
+-- What each move of such a run does to the volumes: a write adds itself to one, a Commit step adds an image, and nothing else
 -- changes any. Nothing is evicted.
-use Rattle.std.proofs.Common.{◌≡◌, ℕ, zero, suc, ◌+◌, ◌<◌, ◌≤◌, List, [], ◌∷◌, ◌++◌, Option, Some, None, refl, Bool, true, false, ap, sym, ◌∙◌, ◌==◌, subst, length, drop, arith}
+use Rattle.std.proofs.Common.{◌≡◌, ℕ, zero, suc, ◌+◌, ◌<◌, ◌≤◌, List, [], ◌∷◌, ◌++◌, Option, Some, None, refl, Bool, true, false, ap, sym, ◌∙◌, ◌==◌, subst}
+use Rattle.std.proofs.Common.{length, drop, arith}
 use Rattle.std.specs.Prelude.{is_some, filter, slice_get, ◌&&◌, not, if◌then◌else◌, nat_le}
 use Rattle.generated.proofs.Terms.{flat_map, Fill, Stamp, payload_bytes, Order, Ok as SaidOk, Actor, Lane, Writer, Advance, Idle, Mark, Clean, Move, Write}
-use Rattle.generated.proofs.Terms.{History, written as with_write, evicted_of, Scripted, scripted_answer, Group, Cut, is_asking, is_working, is_among}
-use Rattle.generated.proofs.Terms.{open_group, sent, change_at, answered as course_answered, stepped as course_stepped, Op, WriteFill, WriteStamp, Plan}
-use Rattle.generated.proofs.Terms.{LaneLine, lines_of, blocks_of, IsOp, target_of, Event, Line, Answer as AnswerEvent, Provider, State, SetRow, in_progress}
-use Rattle.generated.proofs.Terms.{history_in, history_of, left_now, has_image, is_complete, followed, cleared, with_room_if, write, cut_set, step_made, line}
-use Rattle.generated.proofs.Terms.{happens, cut_if, cut_each, order_of_writer, line_enabled, enabled, after, volumes_losing, evicted_for, evicted_at, evicted}
-use Rattle.generated.proofs.Terms.{Run, cursor, next_line, line_event, answer_event, script_event, event_of, act_of, event_enabled, none_can_act, may_move}
-use Rattle.generated.proofs.Terms.{Asked, IsAsked, AreAsked, Spot, spot_after, completes_sets, is_full, IsSmooth, is_write, and_left, and_right, as_many_change}
-use Rattle.generated.proofs.Terms.{as_many_cut}
+use Rattle.generated.proofs.Terms.{History, written as with_write, evicted_of, Scripted, scripted_answer, Group, Cut, is_asking, is_working, open_group, sent}
+use Rattle.generated.proofs.Terms.{change_at, answered as course_answered, stepped as course_stepped, Op, WriteFill, WriteStamp, Plan, LaneLine, lines_of}
+use Rattle.generated.proofs.Terms.{blocks_of, IsOp, target_of, Event, Line, Answer as AnswerEvent, Provider, State, SetRow, in_progress, history_in, history_of}
+use Rattle.generated.proofs.Terms.{left_now, has_image, is_complete, followed, cleared, with_room_if, write, cut_set, image_made, step_made, line, happens}
+use Rattle.generated.proofs.Terms.{next_volume, Commit, as_many_change, each_change, order_of_writer, line_enabled, enabled, after, volumes_losing, evicted_for}
+use Rattle.generated.proofs.Terms.{evicted_at, evicted, Run, cursor, next_line, line_event, answer_event, script_event, event_of, act_of, event_enabled}
+use Rattle.generated.proofs.Terms.{none_can_act, may_move, Asked, IsAsked, AreAsked, Spot, spot_after, completes_sets, is_full, IsSmooth, is_write, and_left}
+use Rattle.generated.proofs.Terms.{and_right}
 use Rattle.writer_calls.specs.declared.answer.Answer.TheVariants.{Ok}
+use Rattle.write_history.specs.History.{cut as history_cut}
 use Rattle.vss_model.proofs.StateForm.{answered, stepped}
 use Rattle.generated.proofs.Sound.{IsSound}
 use Rattle.generated.proofs.Standing.{IsAt}
@@ -27,7 +29,7 @@ use Rattle.vss_model.proofs.CutHistory.{append_none}
 
 -- what an event does to the images of a state before its course goes on
 abbrev pub made_by : State → Event → State
-made_by st Provider = step_made (open_group (left_now st)) st
+made_by st Provider = step_made (open_group (left_now st)) (next_volume (left_now st)) st
 made_by st _ = st
 
 pub record IsGrown (s : Plan) (st next : State) (event : Event) : Type 0 where
@@ -141,37 +143,35 @@ answer_volumes k w st e sound =
     let c = course_answered w SaidOk st.clock st.course in
     ap (λ b. (followed b c st).volumes) (runs_of_order st.course.agenda w e) ∙ followed_volumes k c st (sound_answered k w st.clock st.course sound)
 
-step_volumes : (k : ℕ) (st : State) → is_working (left_now st) ≡ true → IsSound k st.course → (stepped Clean st).volumes ≡ (step_made (open_group (left_now st)) st).volumes
+step_volumes : (k : ℕ) (st : State) → is_working (left_now st) ≡ true → IsSound k st.course → (stepped Clean st).volumes ≡ (step_made (open_group (left_now st)) (next_volume (left_now st)) st).volumes
 unfolding stepped
 step_volumes k st e sound =
     let c = course_stepped true st.clock st.course in
-    ap (λ b. (followed b c (step_made (open_group (left_now st)) st)).volumes) (runs_of_step st.course.agenda e) ∙ followed_volumes k c (step_made (open_group (left_now st)) st) (sound_stepped k st.clock st.course sound)
-
-writes_cut : (n : ℕ) (vs : List ℕ) (u v : ℕ) (hs : List History) → (history_in (slice_get (cut_each n vs u hs) v)).writes ≡ (history_in (slice_get hs v)).writes
-writes_cut n vs u zero [] = refl
-writes_cut n vs u (suc v) [] = refl
-writes_cut n vs u zero (h ∷ hs) = by_test (is_among u vs)
-  where
-    by_test : (b : Bool) → (cut_if b n h).writes ≡ h.writes
-    by_test true = refl
-    by_test false = refl
-writes_cut n vs u (suc v) (h ∷ hs) = writes_cut n vs (u + 1) v hs
+    ap (λ b. (followed b c (step_made (open_group (left_now st)) (next_volume (left_now st)) st)).volumes) (runs_of_step st.course.agenda e) ∙ followed_volumes k c (step_made (open_group (left_now st)) (next_volume (left_now st)) st) (sound_stepped k st.clock st.course sound)
 
 record KeepsWrites (st made : State) : Type 0 where
   count : length made.volumes ≡ length st.volumes
   writes : (v : ℕ) → (history_of made v).writes ≡ (history_of st v).writes
 
 cut_keeps : (o : Option SetRow) (st : State) → KeepsWrites st (cut_set o st)
-cut_keeps o st = grind (arith, as_many_cut, writes_cut)
+cut_keeps o st = grind arith
 
-made_keeps : (g : Option Group) (st : State) → KeepsWrites st (step_made g st)
-made_keeps (Some Cut) st = cut_keeps (in_progress st) st
-made_keeps _ st = record { count = refl; writes = λ v. refl }
+image_keeps : (o : Option SetRow) (v : Option ℕ) (st : State) → KeepsWrites st (image_made o v st)
+image_keeps (Some r) (Some v) st = record {
+  count = as_many_change (history_cut r.number) v st.volumes;
+  writes = λ u. each_change (λ x y. y.writes ≡ x.writes) (λ x. refl) (history_cut r.number) (λ x. refl) v st.volumes u;
+}
+image_keeps _ _ st = record { count = refl; writes = λ v. refl }
+
+made_keeps : (g : Option Group) (v : Option ℕ) (st : State) → KeepsWrites st (step_made g v st)
+made_keeps (Some Cut) v st = cut_keeps (in_progress st) st
+made_keeps (Some Commit) v st = image_keeps (in_progress st) v st
+made_keeps _ v st = record { count = refl; writes = λ u. refl }
 
 step_grown : (s : Plan) (k : ℕ) (st : State) → is_working (left_now st) ≡ true → IsSound k st.course → IsGrown s st (stepped Clean st) Provider
 step_grown s k st e sound =
     let same = step_volumes k st e sound in
-    let keeps = made_keeps (open_group (left_now st)) st in
+    let keeps = made_keeps (open_group (left_now st)) (next_volume (left_now st)) st in
     record {
       count = ap length same ∙ keeps.count;
       writes = λ v l. ap (λ (hs : List History). (history_in (slice_get hs v)).writes) same ∙ keeps.writes v ∙ append_none (history_of st v).writes;

@@ -1,10 +1,10 @@
 -- Each move of a legal trail without faults keeps a run on its way.
 use Rattle.std.proofs.Common.{◌≡◌, ℕ, List, [], ◌∷◌, Option, Some, refl, Bool, true, false, ap, sym, ◌∙◌, ◌==◌, subst, length, inl, inr, find, map, arith}
 use Rattle.std.specs.Prelude.{is_some, ◌&&◌, not, if◌then◌else◌}
-use Rattle.generated.proofs.Terms.{SetOutcome, Ok as SaidOk, Mark, Clean, Write, Group, Cut, Agenda, left, open_group, is_asking, is_working, open_order}
-use Rattle.generated.proofs.Terms.{Course, answered as course_answered, stepped as course_stepped, Plan, State, SetRow, is_running, in_progress, left_now, runs}
-use Rattle.generated.proofs.Terms.{followed, cleared, with_room_if, put, write, cut_set, step_made, volumes_of, with_cut, row_cut, order_of_writer, has_failed}
-use Rattle.generated.proofs.Terms.{IsOrderly, find-map, true_not_false, Place, Free, Stands, Waits}
+use Rattle.generated.proofs.Terms.{SetOutcome, Ok as SaidOk, Mark, Clean, Write, Group, Cut, Commit, Agenda, left, open_group, next_volume, is_asking}
+use Rattle.generated.proofs.Terms.{is_working, open_order, Course, answered as course_answered, stepped as course_stepped, Plan, State, SetRow, is_running}
+use Rattle.generated.proofs.Terms.{in_progress, left_now, runs, followed, cleared, with_room_if, put, write, cut_set, image_made, step_made, volumes_of}
+use Rattle.generated.proofs.Terms.{with_cut, row_cut, order_of_writer, has_failed, IsOrderly, find-map, true_not_false, Place, Free, Stands, Waits}
 use Rattle.vss_model.proofs.StateForm.{answered, stepped}
 use Rattle.generated.proofs.Sound.{IsSound}
 use Rattle.generated.proofs.Standing.{IsPlace, none_failed, IsAt}
@@ -77,16 +77,21 @@ place_along p vs q b xs ys e h = grind arith
 cut_at : (s : Plan) (p : Place) (k : ℕ) (vs : List ℕ) (o : Option SetRow) (st : State) → IsAt s p k vs st → IsMade s p k vs st (cut_set o st)
 cut_at s p k vs o st h = grind (arith, length_map, fine_cut, place_along, volumes_cut)
 
-made_at : (s : Plan) (p : Place) (k : ℕ) (vs : List ℕ) (g : Option Group) (st : State) → IsAt s p k vs st → IsMade s p k vs st (step_made g st)
-made_at s p k vs (Some Cut) st h = cut_at s p k vs (in_progress st) st h
-made_at s p k vs _ st h = record { at = h; ran = refl }
+image_at : (s : Plan) (p : Place) (k : ℕ) (vs : List ℕ) (o : Option SetRow) (v : Option ℕ) (st : State) → IsAt s p k vs st → IsMade s p k vs st (image_made o v st)
+image_at s p k vs (Some r) (Some v) st h = record { at = record { sets = h.sets; fine = h.fine; sound = h.sound; place = h.place }; ran = refl }
+image_at s p k vs _ _ st h = record { at = h; ran = refl }
+
+made_at : (s : Plan) (p : Place) (k : ℕ) (vs : List ℕ) (g : Option Group) (v : Option ℕ) (st : State) → IsAt s p k vs st → IsMade s p k vs st (step_made g v st)
+made_at s p k vs (Some Cut) v st h = cut_at s p k vs (in_progress st) st h
+made_at s p k vs (Some Commit) v st h = image_at s p k vs (in_progress st) v st h
+made_at s p k vs _ v st h = record { at = h; ran = refl }
 
 pub step_at : (s : Plan) (p : Place) (k : ℕ) (vs : List ℕ) (st : State) → is_working (left_now st) ≡ true → IsAt s p k vs st → IsOrderly (stepped Clean st) → IsAt s p k vs (stepped Clean st)
 unfolding stepped
 step_at s p k vs st e h o =
     let ran = runs_of_step st.course.agenda e in
     let c = course_stepped true st.clock st.course in
-    let made = made_at s p k vs (open_group (left_now st)) st h in
-    subst (λ b. IsAt s p k vs (followed b c (step_made (open_group (left_now st)) st))) (sym ran)
+    let made = made_at s p k vs (open_group (left_now st)) (next_volume (left_now st)) st h in
+    subst (λ b. IsAt s p k vs (followed b c (step_made (open_group (left_now st)) (next_volume (left_now st)) st))) (sym ran)
     (busy_at s p k vs c _ (sound_stepped _ st.clock st.course h.sound) (made.ran ∙ ran) made.at
-    (subst (λ b. IsOrderly (followed b c (step_made (open_group (left_now st)) st))) ran o))
+    (subst (λ b. IsOrderly (followed b c (step_made (open_group (left_now st)) (next_volume (left_now st)) st))) ran o))

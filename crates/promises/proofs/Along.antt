@@ -217,7 +217,7 @@ module _ (G : Agenda → Type 0) (k : IsKeptAlong G) where
     step_fails now c = (refl, refl)
 
     step_as : (f : Bool) (g : Group) (mark : Mark) → open_group (left_now st) ≡ Some g → is_working (left_now st) ≡ true
-        → Next Provider mark (Stepped g (next_volume (left_now st)) f, stepped_as f (Some g) st)
+        → Next Provider mark (Stepped g (next_volume (left_now st)) f, stepped_as f (Some g) (next_volume (left_now st)) st)
     step_as true g mark e w =
         let c = course_stepped false st.clock st.course in (
           on_followed _ (runs st) c st (subst (Running (Tells (so_far ++ []))) (sym (step_fails st.clock st.course).0) tt),
@@ -225,11 +225,11 @@ module _ (G : Agenda → Type 0) (k : IsKeptAlong G) where
         )
     step_as false g mark e w =
         let c = course_stepped true st.clock st.course in
-        let x = stepped_as false (Some g) st in
+        let x = stepped_as false (Some g) (next_volume (left_now st)) st in
         let made : so_far ++ made_now (left_now st) st.clock (open_group (left_now st)) ≡ so_far ++ Made g (next_volume (left_now st)) x.clock ∷ [] =
-        ap (λ o. so_far ++ made_now (left_now st) st.clock o) e ∙ ap (λ t. so_far ++ Made g (next_volume (left_now st)) t ∷ []) (sym (clock-stepped_as false (Some g) st)) in (
-          subst (λ ds. Stands ds x) made (on_followed _ (runs st) c (step_made (Some g) st) (grow so_far _ st.course.agenda st.course.outcome _ _ (grows_stepped true st.clock st.course w) h)),
-          λ run inc. done_followed n _ (runs st) c (step_made (Some g) st) (incomplete_made n (Some g) st inc)
+        ap (λ o. so_far ++ made_now (left_now st) st.clock o) e ∙ ap (λ t. so_far ++ Made g (next_volume (left_now st)) t ∷ []) (sym (clock-stepped_as false (Some g) (next_volume (left_now st)) st)) in (
+          subst (λ ds. Stands ds x) made (on_followed _ (runs st) c (step_made (Some g) (next_volume (left_now st)) st) (grow so_far _ st.course.agenda st.course.outcome _ _ (grows_stepped true st.clock st.course w) h)),
+          λ run inc. done_followed n _ (runs st) c (step_made (Some g) (next_volume (left_now st)) st) (incomplete_made n (Some g) (next_volume (left_now st)) st inc)
               (λ d. subst (λ ds. IsLast G ds st.course.agenda) made (completes so_far _ st.course.agenda st.course.outcome _ _ run d (grows_stepped true st.clock st.course w) h)),
         )
 
@@ -237,7 +237,7 @@ module _ (G : Agenda → Type 0) (k : IsKeptAlong G) where
     works_not os e f = grind arith
 
     step_at : (o : Option Group) (mark : Mark) → open_group (left_now st) ≡ o → is_working (left_now st) ≡ true
-        → Next Provider mark (step_reply o (next_volume (left_now st)) mark, stepped_as (is_failed_step (is_flush o) mark) o st)
+        → Next Provider mark (step_reply o (next_volume (left_now st)) mark, stepped_as (is_failed_step (is_flush o) mark) o (next_volume (left_now st)) st)
     step_at None mark e w = absurd (works_not (left_now st) e w)
     step_at (Some g) mark e w = step_as (is_failed_step (is_flush (Some g)) mark) g mark e w
 

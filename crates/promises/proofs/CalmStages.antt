@@ -2,12 +2,11 @@
 use Rattle.std.proofs.Common.{◌≡◌, ◌∙◌, ℕ, ◌+◌, List, [], ◌∷◌, ◌⊎◌, Option, Some, None, refl, Bool, true, false, ap, sym, subst, inl, inr, map, fold, arith}
 use Rattle.std.specs.Prelude.{option_map}
 use Rattle.promises.proofs.Words.{Context, SetOutcome, VssResult, AsyncCancelled, Said, row_gathered, Mark, Write, Group, Gather, Prepare, Snapshot, Complete}
-use Rattle.promises.proofs.Words.{Agenda, open_group, is_working, Session, agenda_ended, set_failed, Plan, State, SetRow, Kept, start, in_progress, left_now}
-use Rattle.promises.proofs.Words.{put, reverted_as, has_failed, IsOrderly, Act, after, state, IsKeptByChanges, IsKeptByWrites, kept_by_changes as orderly_kept}
+use Rattle.promises.proofs.Words.{Agenda, is_working, Session, agenda_ended, set_failed, Plan, State, SetRow, Kept, start, in_progress, left_now, put}
+use Rattle.promises.proofs.Words.{reverted_as, has_failed, IsOrderly, Act, after, state, IsKeptByChanges, IsKeptByWrites, kept_by_changes as orderly_kept}
 use Rattle.promises.proofs.Words.{kept_by_writes as orderly_writes, orderly, on_after, course-step_made, by_if, Failed as FailedSet, Course}
 use Rattle.promises.proofs.Words.{answered as course_answered, stepped as course_stepped, timed as course_timed, Started, ending, runs, concluded, followed}
-use Rattle.promises.proofs.Words.{failed_in, failed, begin_in, closed, start_set, step_made, stepped_as, ticked, later, has_no_volume, is_flush, is_failed_step}
-use Rattle.promises.proofs.Words.{true_not_false}
+use Rattle.promises.proofs.Words.{failed_in, failed, begin_in, closed, start_set, step_made, stepped_as, ticked, later, has_no_volume, true_not_false}
 use Rattle.vss_names.specs.declared.set_outcome.SetOutcome.TheVariants.{Running as RunningSet, Complete as CompleteSet}
 use Rattle.requestor.specs.declared.stage.Stage.TheVariants.{Failed}
 use Rattle.vss_model.proofs.StateForm.{answered, stepped}
@@ -91,15 +90,15 @@ module _ (st : State) (h : IsCalmOrderly st) where
   unfolding ticked
   on_ticks n = calm_followed (runs st) (course_timed (st.clock + n) st.course) (later n st) refl refl (calm_timed (st.clock + n) st.course)
 
-  on_step : (b : Bool) (g : Option Group) → is_working (left_now st) ≡ true → IsCalm (stepped_as b g st)
-  on_step true g e = calm_followed (runs st) (course_stepped false st.clock st.course) st refl refl (calm_stepped false st.clock st.course e)
-  on_step false g e =
-      calm_followed (runs st) (course_stepped true st.clock st.course) (step_made g st) (session_made g st) (ap (λ (c : Course). c.outcome) (course-step_made g st))
+  on_step : (b : Bool) (g : Option Group) (v : Option ℕ) → is_working (left_now st) ≡ true → IsCalm (stepped_as b g v st)
+  on_step true g v e = calm_followed (runs st) (course_stepped false st.clock st.course) st refl refl (calm_stepped false st.clock st.course e)
+  on_step false g v e =
+      calm_followed (runs st) (course_stepped true st.clock st.course) (step_made g v st) (session_made g v st) (ap (λ (c : Course). c.outcome) (course-step_made g v st))
       (calm_stepped true st.clock st.course e)
 
   on_steps : (mark : Mark) → is_working (left_now st) ≡ true → IsCalm (stepped mark st)
   unfolding stepped
-  on_steps mark e = on_step (is_failed_step (is_flush (open_group (left_now st))) mark) (open_group (left_now st)) e
+  on_steps mark e = on_step _ _ _ e
 
   on_failed : (o : Option SetRow) (why : VssResult) → IsCalm (failed_in o why st)
   on_failed o why = grind arith

@@ -1,10 +1,10 @@
 -- What moves the clock.
 use Rattle.std.proofs.Common.{◌≡◌, ◌∙◌, ℕ, ◌+◌, List, Option, Some, None, refl, Bool, true, false, sym, ap, arith}
 use Rattle.std.specs.Prelude.{unwrap_or}
-use Rattle.promises.proofs.Words.{VssResult, AsyncCancelled, Said, Mark, Write, said_of, Group, open_group, Course, Session, Op, Target, target_of, Plan, Event}
-use Rattle.promises.proofs.Words.{State, SetRow, Kept, in_progress, left_now, line_ticks, ticks_of, Act, enabled, idle_now, after, state, ticks_if, ClockMoves}
-use Rattle.promises.proofs.Words.{Covers, covered, after_enabled, after_not_enabled, by_if, Ending, ending, runs, concluded, followed, failed_in, failed}
-use Rattle.promises.proofs.Words.{Replied, write, reverted_as, closed, step_made, stepped_as, ticked, later, has_no_volume, is_flush, is_failed_step}
+use Rattle.promises.proofs.Words.{VssResult, AsyncCancelled, Said, Mark, Write, said_of, Group, Course, Session, Op, Target, target_of, Plan, Event, State}
+use Rattle.promises.proofs.Words.{SetRow, Kept, in_progress, line_ticks, ticks_of, Act, enabled, idle_now, after, state, ticks_if, ClockMoves, Covers, covered}
+use Rattle.promises.proofs.Words.{after_enabled, after_not_enabled, by_if, Ending, ending, runs, concluded, followed, failed_in, failed, Replied, write}
+use Rattle.promises.proofs.Words.{reverted_as, closed, step_made, stepped_as, ticked, later, has_no_volume}
 use Rattle.vss_model.proofs.StateForm.{answered, stepped}
 
 clock-concluded : (e : Ending) (st : State) → (concluded e st).clock ≡ st.clock
@@ -24,19 +24,19 @@ clock-write s v w mark st = grind arith
 clock-reverted : (s : Plan) (v : ℕ) (k : Kept) (mark : Mark) (st : State) → (reverted_as s v k mark st).1.clock ≡ st.clock
 clock-reverted s v k mark st = grind arith
 
-pub clock-made : (g : Option Group) (st : State) → (step_made g st).clock ≡ st.clock
-clock-made g st = grind arith
+pub clock-made : (g : Option Group) (v : Option ℕ) (st : State) → (step_made g v st).clock ≡ st.clock
+clock-made g v st = grind arith
 
 pub clock-answered : (w : ℕ) (said : Said) (st : State) → (answered w said st).clock ≡ st.clock
 unfolding answered
 clock-answered w said st = clock-followed (runs st) _ st
 
-pub clock-stepped_as : (fails : Bool) (g : Option Group) (st : State) → (stepped_as fails g st).clock ≡ st.clock
-clock-stepped_as fails g st = grind (arith, clock-followed, clock-made)
+pub clock-stepped_as : (fails : Bool) (g : Option Group) (v : Option ℕ) (st : State) → (stepped_as fails g v st).clock ≡ st.clock
+clock-stepped_as fails g v st = grind (arith, clock-followed, clock-made)
 
 pub clock-stepped : (mark : Mark) (st : State) → (stepped mark st).clock ≡ st.clock
 unfolding stepped
-clock-stepped mark st = clock-stepped_as (is_failed_step (is_flush (open_group (left_now st))) mark) (open_group (left_now st)) st
+clock-stepped mark st = clock-stepped_as _ _ _ st
 
 pub clock-ticked : (n : ℕ) (st : State) → (ticked n st).clock ≡ st.clock + n
 unfolding ticked

@@ -1,7 +1,7 @@
 -- A set that fails has the code of its cause.
 use Rattle.std.proofs.Common.{◌≡◌, ◌∙◌, ℕ, ◌+◌, List, [], ◌∷◌, Option, Some, None, refl, Bool, true, false, ap, sym, subst, arith}
 use Rattle.std.specs.Prelude.{◌&&◌, not, if◌then◌else◌}
-use Rattle.promises.proofs.Words.{both_ways, Order, SetOutcome, Failed as FailedSet, VssResult, Timeout, is_ok, Mark, Write, said_of, Group, Limit, Agenda}
+use Rattle.promises.proofs.Words.{next_volume, both_ways, Order, SetOutcome, Failed as FailedSet, VssResult, Timeout, is_ok, Mark, Write, said_of, Group, Limit, Agenda}
 use Rattle.promises.proofs.Words.{Open, groups_left, open_group, open_order, order_now, is_working, left, Running as RunningLimit, first_hold, running_at}
 use Rattle.promises.proofs.Words.{running_limits, spent_of, held_here, frozen_here, IsSpentHere, spent_here, Session, Op, target_of, Plan, Event, Line, State}
 use Rattle.promises.proofs.Words.{SetRow, in_progress, left_now, followed, runs, failed_in, failed, has_failed, Act, idle_now, state, holds_volumes}
@@ -192,18 +192,18 @@ module _ (s : Plan) (so_far : List Act) (why : VssResult) where
       (sym (posted_outcome st.course _) ∙ ap (λ (d : Course). d.outcome) (sym (course_followed (runs st) c (later n st)))
       ∙ of_turn (followed (runs st) c (later n st)) (runs st) (tick_turn s so_far n) e)
 
-  step_reason : (b : Bool) (g : Option Group) → has_failed st.course.outcome ≡ false → (stepped_as b g st).course.outcome ≡ FailedSet why → why ≡ UnexpectedProviderError
-  step_reason true g f e =
+  step_reason : (b : Bool) (g : Option Group) (v : Option ℕ) → has_failed st.course.outcome ≡ false → (stepped_as b g v st).course.outcome ≡ FailedSet why → why ≡ UnexpectedProviderError
+  step_reason true g v f e =
       same_reason why UnexpectedProviderError
       (sym (ap (λ (d : Course). d.outcome) (sym (course_followed (runs st) (course_stepped false st.clock st.course) st)) ∙ e)
       ∙ (posted_outcome st.course _ ∙ failed_outcome UnexpectedProviderError st.course))
-  step_reason false g f e =
+  step_reason false g v f e =
       calm_reason (course_stepped true st.clock st.course).outcome why (none_stepped st.clock st.course f)
-      (ap (λ (d : Course). d.outcome) (sym (course_followed (runs st) (course_stepped true st.clock st.course) (step_made g st))) ∙ e)
+      (ap (λ (d : Course). d.outcome) (sym (course_followed (runs st) (course_stepped true st.clock st.course) (step_made g v st))) ∙ e)
 
   step_code : (mark : Mark) → is_working (left_now st) ≡ true → set_failure (in_progress st) (stepped mark st) ≡ Some why → why ≡ UnexpectedProviderError
   unfolding stepped
-  step_code mark on e = step_reason (is_failed_step (is_flush (open_group (left_now st))) mark) (open_group (left_now st)) (was_running _ e) (of_turn _ (runs st) (step_turn s so_far mark on) e)
+  step_code mark on e = step_reason (is_failed_step (is_flush (open_group (left_now st))) mark) (open_group (left_now st)) (next_volume (left_now st)) (was_running _ e) (of_turn _ (runs st) (step_turn s so_far mark on) e)
 
   abort_code : set_failure (in_progress st) (failed AsyncCancelled st) ≡ Some why → why ≡ AsyncCancelled
   abort_code e = abort_reason (in_progress st) AsyncCancelled refl (was_running (failed AsyncCancelled st) e) (of_turn (failed AsyncCancelled st) (runs st) (abort_turn s so_far) e)

@@ -3,18 +3,19 @@ use Rattle.std.proofs.Common.{◌≡◌, ◌∙◌, ℕ, ◌+◌, ◌==◌, List
 use Rattle.std.specs.Prelude.{◌&&◌, option_map, if◌then◌else◌}
 use Rattle.promises.proofs.Words.{Context, Backup, VssResult, AsyncCancelled, Said, Mark, Clean, Write, dropped, said_of, open_group, Group, Stage, Session}
 use Rattle.promises.proofs.Words.{has_writers, opened, started, is_stage, Plan, Event, Line, State, SetRow, Kept, start, in_progress, row_changed, left_now}
-use Rattle.promises.proofs.Words.{has_image, followed, runs, failed, NumberedFrom, IsOfSession as IsSessionOfSet, is_early, LetsGo, is_provider, is_cut_group}
-use Rattle.promises.proofs.Words.{Act, enabled, idle_now, after, state, state-append, after_cut, fewer_after, fewer_followed, true_not_false, orderly, at}
-use Rattle.promises.proofs.Words.{stands, BackupsEnd, Covers, covered, after_enabled, after_not_enabled, some_same, by_if, and_parts}
+use Rattle.promises.proofs.Words.{has_image, followed, runs, failed, NumberedFrom, IsOfSession as IsSessionOfSet, is_early, LetsGo, is_provider, Act, enabled}
+use Rattle.promises.proofs.Words.{idle_now, after, state, state-append, after_commit, is_commit, next_volume, fewer_after, fewer_followed, true_not_false}
+use Rattle.promises.proofs.Words.{orderly, at, stands, BackupsEnd, Covers, covered, after_enabled, after_not_enabled, some_same, by_if, and_parts}
 use Rattle.promises.proofs.Words.{answered as course_answered, stepped as course_stepped, timed as course_timed, Opened, Gathered, is_backup, Replied, write}
-use Rattle.promises.proofs.Words.{reverted_as, start_set, images_released, closed, cut_set, step_made, stepped_as, ticked, later, new_set, new_number}
-use Rattle.promises.proofs.Words.{with_volume, has_no_volume, is_flush, is_failed_step, number_is}
+use Rattle.promises.proofs.Words.{reverted_as, start_set, images_released, closed, image_made, step_made, stepped_as, ticked, later, new_set, new_number}
+use Rattle.promises.proofs.Words.{with_volume, has_no_volume, number_is}
 use Rattle.requestor.specs.declared.session_call.SessionCall.TheVariants as call
 use Rattle.scenario.specs.declared.op.Op.TheVariants as op
 use Rattle.vss_model.proofs.StateForm.{answered, stepped}
 use Rattle.promises.proofs.Done.{kept_map, dropped_gone}
 use Rattle.promises.proofs.Contexts.{context_in, context_map, changed_number, changed_context, context_other, context_new, HasMade, Owned, NoMore, Relates}
-use Rattle.promises.proofs.Contexts.{relates_same, relates_over, relates_followed, relates_failed, relates_room, relates_put, owned_by, cut_contexts, owned_cut}
+use Rattle.promises.proofs.Contexts.{relates_same, relates_over, relates_followed, relates_failed, relates_room, relates_put, owned_by, cut_contexts}
+use Rattle.promises.proofs.Contexts.{owned_made}
 
 -- ## a new set
 
@@ -75,21 +76,21 @@ module _ (s : Plan) (st : State) (num : NumberedFrom 1 st.sets) (h : Owned st) w
   unfolding ticked
   related_tick n = relates_followed (runs st) (course_timed (st.clock + n) st.course) (later n st)
 
-  made_contexts : (g : Option Group) (n : ℕ) → context_in (step_made g st).sets n ≡ context_in st.sets n
-  made_contexts g n = grind (arith, cut_contexts)
+  made_contexts : (g : Option Group) (v : Option ℕ) (n : ℕ) → context_in (step_made g v st).sets n ≡ context_in st.sets n
+  made_contexts g v n = grind (arith, cut_contexts)
 
-  made_session : (g : Option Group) → (step_made g st).session ≡ st.session
-  made_session g = grind arith
+  made_session : (g : Option Group) (v : Option ℕ) → (step_made g v st).session ≡ st.session
+  made_session g v = grind arith
 
-  related_step_as : (b : Bool) (g : Option Group) → Relates st.sets st.session (stepped_as b g st)
-  related_step_as true g = relates_followed (runs st) (course_stepped false st.clock st.course) st
-  related_step_as false g =
-      subst (λ p. Relates st.sets p (followed (runs st) (course_stepped true st.clock st.course) (step_made g st))) (made_session g)
-      (relates_over st.sets (step_made g st).sets (step_made g st).session _ (made_contexts g) (relates_followed (runs st) (course_stepped true st.clock st.course) (step_made g st)))
+  related_step_as : (b : Bool) (g : Option Group) (v : Option ℕ) → Relates st.sets st.session (stepped_as b g v st)
+  related_step_as true g v = relates_followed (runs st) (course_stepped false st.clock st.course) st
+  related_step_as false g v =
+      subst (λ p. Relates st.sets p (followed (runs st) (course_stepped true st.clock st.course) (step_made g v st))) (made_session g v)
+      (relates_over st.sets (step_made g v st).sets (step_made g v st).session _ (made_contexts g v) (relates_followed (runs st) (course_stepped true st.clock st.course) (step_made g v st)))
 
   related_step : (mark : Mark) → Relates st.sets st.session (stepped mark st)
   unfolding stepped
-  related_step mark = related_step_as (is_failed_step (is_flush (open_group (left_now st))) mark) (open_group (left_now st))
+  related_step mark = related_step_as _ _ _
 
   -- the session ends, and takes its images along
   none_left : (q : Session) (x : State) (n v : ℕ) → q.context ≡ Backup → q.set ≡ Some n → stands (closed q x) n v ≡ true → ⊥
@@ -159,14 +160,14 @@ module _ (s : Plan) (st : State) (num : NumberedFrom 1 st.sets) (h : Owned st) w
   owned_if : (b : Bool) (act : Act) → enabled s st act.event ≡ b → NoMore st (after s st act) → Owned (after s st act)
   owned_if b act e img = grind (arith, after_enabled, covered, owned_next, after_not_enabled)
 
-  owned_after : (b : Bool) (act : Act) → (is_provider act.event && is_cut_group (open_group (left_now st))) ≡ b → IsSessionOfSet st.session st.course.outcome (in_progress st) → Owned (after s st act)
+  owned_after : (b : Bool) (act : Act) → (is_provider act.event && is_commit (open_group (left_now st))) ≡ b → IsSessionOfSet st.session st.course.outcome (in_progress st) → Owned (after s st act)
   owned_after false act e k = owned_if (enabled s st act.event) act refl (λ n v g. ((fewer_after s st act e).each v).sets n g)
   owned_after true act e k =
-      let parts = and_parts (is_provider act.event) (is_cut_group (open_group (left_now st))) e in
-      let x = cut_set (in_progress st) st in
-      subst Owned (sym (after_cut s st act parts.0 parts.1))
+      let parts = and_parts (is_provider act.event) (is_commit (open_group (left_now st))) e in
+      let x = image_made (in_progress st) (next_volume (left_now st)) st in
+      subst Owned (sym (after_commit s st act parts.0 parts.1))
       (owned_by x _ (relates_followed (runs st) (course_stepped true st.clock st.course) x)
-      (λ n v g. ((fewer_followed (runs st) (course_stepped true st.clock st.course) x).each v).sets n g) (owned_cut (in_progress st) st refl k h))
+      (λ n v g. ((fewer_followed (runs st) (course_stepped true st.clock st.course) x).each v).sets n g) (owned_made (in_progress st) (next_volume (left_now st)) st refl k h))
 
 owned_from : (s : Plan) (so_far acts : List Act) → Owned (state s so_far) → Owned (fold (after s) (state s so_far) acts)
 owned_from s so_far [] h = h

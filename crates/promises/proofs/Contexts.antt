@@ -1,10 +1,12 @@
 -- What keeps the context of a set, and whose session it is.
-use Rattle.std.proofs.Common.{◌≡◌, ◌∙◌, ℕ, ◌+◌, ◌==◌, zero, suc, List, [], ◌∷◌, ◌++◌, Option, Some, None, refl, Bool, true, false, ap, sym, subst, map, find, length, arith}
+use Rattle.std.proofs.Common.{◌≡◌, ◌∙◌, ℕ, ◌+◌, ◌==◌, suc, List, [], ◌∷◌, ◌++◌, Option, Some, None, refl, Bool, true, false, ap, sym, subst, map, find, length}
+use Rattle.std.proofs.Common.{arith}
 use Rattle.std.specs.Prelude.{is_some, option_map, if◌then◌else◌}
-use Rattle.promises.proofs.Words.{Context, Backup, SetOutcome, VssResult, Mark, Write, Image, History, point_in, is_among, Course, Stage, Session, stage_after}
-use Rattle.promises.proofs.Words.{agenda_ended, set_failed, State, SetRow, in_progress, row_changed, has_image, with_room_if, put, cut_if, cut_each, cut_set}
-use Rattle.promises.proofs.Words.{NumberedFrom, IsOfSession as IsSessionOfSet, is_early, at, stands, Ending, ending, row_settled, concluded, followed}
+use Rattle.promises.proofs.Words.{Context, Backup, SetOutcome, VssResult, Mark, Write, Image, History, point_in, Course, Stage, Session, stage_after}
+use Rattle.promises.proofs.Words.{agenda_ended, set_failed, State, SetRow, in_progress, row_changed, has_image, with_room_if, put, cut_set, image_made}
+use Rattle.promises.proofs.Words.{each_change, NumberedFrom, IsOfSession as IsSessionOfSet, is_early, stands, Ending, ending, row_settled, concluded, followed}
 use Rattle.promises.proofs.Words.{failed_in, number_is}
+use Rattle.write_history.specs.History.{cut as history_cut}
 use Rattle.promises.proofs.Truth.{same_number}
 
 -- ## the context of a set
@@ -145,11 +147,10 @@ relates_put v w mark rows session x h = grind arith
 pub owned_by : (x next : State) → Relates x.sets x.session next → NoMore x next → Owned x → Owned next
 owned_by x next r img h = owned_still r.change r.keeps x next r.contexts r.is img h
 
--- ## the cut
+-- ## what a step makes
 
-pub cut_images : (m n : ℕ) (vs : List ℕ) (u : ℕ) (hs : List History) (v : ℕ) → (m == n) ≡ false → has_image n (at (cut_each m vs u hs) v) ≡ true → has_image n (at hs v) ≡ true
-cut_images m n vs u [] v e h = h
-cut_images m n vs u (x ∷ hs) zero e h = by_set (is_among u vs) h where
+made_images : (m n : ℕ) (x : History) → (m == n) ≡ false → has_image n (history_cut m x) ≡ true → has_image n x ≡ true
+made_images m n x e h = other x.images (length x.writes) h where
   other : (images : List Image) (p : ℕ) → is_some (point_in n (images ++ record { set = m; point = p } ∷ [])) ≡ true → is_some (point_in n images) ≡ true
   other [] p h = ap (λ b. is_some (if b then Some p else None)) (sym e) ∙ h
   other (i ∷ images) p h = by_head (i.set == n) h (other images p) where
@@ -159,24 +160,16 @@ cut_images m n vs u (x ∷ hs) zero e h = by_set (is_among u vs) h where
     by_head true h ih = refl
     by_head false h ih = ih h
 
-  by_set : (b : Bool) → has_image n (cut_if b m x) ≡ true → has_image n x ≡ true
-  by_set true h = other x.images (length x.writes) h
-  by_set false h = h
-cut_images m n vs u (x ∷ hs) (suc v) e h = cut_images m n vs (u + 1) hs v e h
-
 pub cut_contexts : (o : Option SetRow) (st : State) (n : ℕ) → context_in (cut_set o st).sets n ≡ context_in st.sets n
 cut_contexts o st n = grind (arith, context_map, changed_number, changed_context)
 
 pub made_by : (p : Option Session) (o : SetOutcome) (r : SetRow) → IsSessionOfSet p o (Some r) → HasMade p r.number
 made_by p o r h = grind arith
 
-pub owned_cut : (o : Option SetRow) (st : State) → in_progress st ≡ o → IsSessionOfSet st.session st.course.outcome (in_progress st) → Owned st → Owned (cut_set o st)
-owned_cut None st e k h = h
-owned_cut (Some r) st e k h = record {
-  own = λ n v c g. by_number n v (r.number == n) refl (sym (cut_contexts (Some r) st n) ∙ c) g;
-  same = λ q n f g. cut_contexts (Some r) st n ∙ h.same q n f g;
-  early = h.early;
-} where
-  by_number : (n v : ℕ) (b : Bool) → (r.number == n) ≡ b → context_in st.sets n ≡ Some Backup → stands (cut_set (Some r) st) n v ≡ true → HasMade st.session n
+pub owned_made : (o : Option SetRow) (u : Option ℕ) (st : State) → in_progress st ≡ o → IsSessionOfSet st.session st.course.outcome (in_progress st) → Owned st → Owned (image_made o u st)
+owned_made (Some r) (Some u) st e k h = record { own = λ n v c g. by_number n v (r.number == n) refl c g; same = h.same; early = h.early } where
+  by_number : (n v : ℕ) (b : Bool) → (r.number == n) ≡ b → context_in st.sets n ≡ Some Backup → stands (image_made (Some r) (Some u) st) n v ≡ true → HasMade st.session n
   by_number n v true i c g = subst (HasMade st.session) (number_is r.number n i) (made_by st.session st.course.outcome r (subst (IsSessionOfSet st.session st.course.outcome) e k))
-  by_number n v false i c g = h.own n v c (cut_images r.number n r.volumes 0 st.volumes v i g)
+  by_number n v false i c g =
+      h.own n v c (each_change (λ x y. has_image n y ≡ true → has_image n x ≡ true) (λ x j. j) (history_cut r.number) (λ x j. made_images r.number n x i j) u st.volumes v g)
+owned_made _ _ st e k h = h

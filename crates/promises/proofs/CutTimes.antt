@@ -82,8 +82,8 @@ times_followed ran c x n = times_ended (ending x.course.outcome c.outcome ran c.
 
 module _ (s : Plan) (st : State) (n : ℕ) (t : Option ℕ) where
   -- an act that is not the Cut step of set n
-  cut_other : (e : Event) (m : Mark) (x : State) (k now : ℕ) → is_cut_of n st (record { event = e; mark = m }) ≡ false → IsCut e st x k → (k == n) ≡ false
-  cut_other e m x k now f i = apart (is_provider e) (is_cut_group (open_group (left_now st))) (k == n) i.provider i.group
+  cut_other : (e : Event) (m : Mark) (k : ℕ) → is_cut_of n st (record { event = e; mark = m }) ≡ false → IsCut e st k → (k == n) ≡ false
+  cut_other e m k f i = apart (is_provider e) (is_cut_group (open_group (left_now st))) (k == n) i.provider i.group
       (ap (λ j. (is_provider e && is_cut_group (open_group (left_now st))) && (j == n)) i.number ∙ ap (λ o. (is_provider e && is_cut_group (open_group (left_now st))) && is_set n o) (sym i.found) ∙ f)
     where
       apart : (a b c : Bool) → a ≡ true → b ≡ true → ((a && b) && c) ≡ false → c ≡ false
@@ -93,7 +93,7 @@ module _ (s : Plan) (st : State) (n : ℕ) (t : Option ℕ) where
       → time_in x.sets n ≡ Some t → time_in (apply x c).sets n ≡ Some t
   keeps_time e m f (StartsSet r) x i h = time_more x.sets r n t h
   keeps_time e m f (AddsVolume k v) x i h = time_map (row_changed k (with_volume v)) (λ r. changed_number k (with_volume v) r refl) n (λ r g. added_time k v r) x.sets ∙ h
-  keeps_time e m f (IsCutAt k now) x i h = time_cut_other k now n x.sets (cut_other e m x k now f i.0) ∙ h
+  keeps_time e m f (IsCutAt k now) x i h = time_cut_other k now n x.sets (cut_other e m k f i.0) ∙ h
   keeps_time e m f (Settles o) x i h = times_settled o x.sets n ∙ h
   keeps_time e m f _ x i h = h
 

@@ -2,13 +2,14 @@
 use Rattle.std.proofs.Common.{◌≡◌, ◌∙◌, ℕ, ◌+◌, ◌==◌, ◌≤◌, ◌<◌, zero, suc, List, [], ◌∷◌, ◌++◌, Option, Some, None, refl, Bool, true, false, ap, sym, subst, map, filter, find, length, arith}
 use Rattle.std.specs.Prelude.{not, nat_lt, is_some, unwrap_or, option_map, if◌then◌else◌, slice_get}
 use Rattle.promises.proofs.Words.{range_with_len, ltb-false, ltb-true, SetOutcome, VssResult, Image, History, point_in, dropped, after_set, up_to_set, Placed}
-use Rattle.promises.proofs.Words.{lacks_slot, gone_up_to, evicted_up_to, Group, Agenda, is_among, State, SetRow, is_running, in_progress, has_image, cut_if}
-use Rattle.promises.proofs.Words.{cut_each, step_made, NumberedFrom, has_failed, IsFailed, true_not_false, running_found, row_running, row_settles}
+use Rattle.promises.proofs.Words.{lacks_slot, gone_up_to, evicted_up_to, Group, Agenda, each_change, State, SetRow, is_running, in_progress, has_image}
+use Rattle.promises.proofs.Words.{step_made, NumberedFrom, has_failed, IsFailed, true_not_false, running_found, row_running, row_settles}
 use Rattle.promises.proofs.Words.{result-settled, at, stands, Fails, within, Failed as FailedSet, Course, posted, settled_in, settled, worked}
 use Rattle.promises.proofs.Words.{stepped as course_stepped, change_at, Ending, SetFails, ending, row_settled, images_dropped, concluded, followed, failed_in}
 use Rattle.promises.proofs.Words.{number_is, not_false}
 use Rattle.vss_names.specs.declared.set_outcome.SetOutcome.TheVariants.{Running as RunningSet}
 use Rattle.set_agenda.specs.Course.{failed as course_failed}
+use Rattle.write_history.specs.History.{cut as history_cut}
 use Rattle.promises.proofs.Members.{next_up}
 
 -- ## lists of images
@@ -98,13 +99,8 @@ left_in_group m n (p ∷ ps) (h ∷ hs) zero w e = by_group p.within w e where
   by_group false i e = absurd cc
 left_in_group m n (p ∷ ps) (h ∷ hs) (suc v) w e = left_in_group m n ps hs v w e
 
-cut_keeps : (n m : ℕ) (vs : List ℕ) (u : ℕ) (hs : List History) (v : ℕ) → has_image n (at hs v) ≡ true → has_image n (at (cut_each m vs u hs) v) ≡ true
-cut_keeps n m vs u [] v e = e
-cut_keeps n m vs u (h ∷ hs) zero e = by_set (is_among u vs) where
-  by_set : (b : Bool) → has_image n (cut_if b m h) ≡ true
-  by_set true = still_after n h.images m (length h.writes) e
-  by_set false = e
-cut_keeps n m vs u (h ∷ hs) (suc v) e = cut_keeps n m vs (u + 1) hs v e
+image_keeps : (n m u : ℕ) (hs : List History) (v : ℕ) → has_image n (at hs v) ≡ true → has_image n (at (change_at u (history_cut m) hs) v) ≡ true
+image_keeps n m u hs v = each_change (λ x y. has_image n x ≡ true → has_image n y ≡ true) (λ x e. e) (history_cut m) (λ x e. still_after n x.images m (length x.writes) e) u hs v
 
 -- ## the least number of sets
 
@@ -185,5 +181,5 @@ pub none_stepped : (now : ℕ) (c : Course) → has_failed c.outcome ≡ false �
 unfolding posted settled worked
 none_stepped now c h = none_settled_in (worked now c).agenda (worked now c) h
 
-pub made_keeps : (n v : ℕ) (g : Option Group) (st : State) → stands st n v ≡ true → stands (step_made g st) n v ≡ true
-made_keeps n v g st h = grind (arith, cut_keeps)
+pub made_keeps : (n v : ℕ) (g : Option Group) (u : Option ℕ) (st : State) → stands st n v ≡ true → stands (step_made g u st) n v ≡ true
+made_keeps n v g u st h = grind (arith, image_keeps)

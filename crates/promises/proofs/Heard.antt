@@ -1,12 +1,12 @@
 -- Who was waited for has spoken, and what the log keeps.
-use Rattle.std.proofs.Common.{◌≡◌, ◌∙◌, ℕ, ◌==◌, List, [], ◌∷◌, Option, Some, None, refl, Bool, true, false, ap, sym, subst, map, filter}
+use Rattle.std.proofs.Common.{◌≡◌, ◌∙◌, ℕ, ◌==◌, List, [], ◌∷◌, Option, Some, None, refl, Bool, true, false, ap, sym, subst, map}
 use Rattle.std.specs.Prelude.{◌&&◌, ◌||◌, not, if◌then◌else◌}
 use Rattle.promises.proofs.Words.{list_any, Level, Order, Identify, PrepareBackup, PrepareSnapshot, Freeze, Thaw, PostSnapshot, BackupComplete, Said, Group}
 use Rattle.promises.proofs.Words.{Orders, PreCommit, Flush, Hold, Cut, Commit, Release, PostCommit, Snapshot, Member, Place, is_member, fails_set, Plan}
 use Rattle.promises.proofs.Words.{unspoken, true_not_false, among_filter, among_members, Deed, level_of, stage, Rising, same_volume, is_heard, is_made, AreOnce}
 use Rattle.promises.proofs.Words.{heard, agreed, made, and_parts, or_left, or_right, Agenda, Entry, Open, plain, places, same_order, group_code, level_code}
 use Rattle.promises.proofs.Words.{is_orders, has_said, is_at, writers_at, members_of, waited_for, with_group, left_from, groups_left, open_place, is_among}
-use Rattle.promises.proofs.Words.{waits_now, at_level, number_is, unless, filter_passes}
+use Rattle.promises.proofs.Words.{at_level, number_is}
 use Rattle.set_agenda.specs.Agenda.{has_failed}
 use Rattle.promises.proofs.Levels.{Ascends, MembersOf}
 use Rattle.promises.proofs.Speaks.{deed_at, deed_in}
@@ -140,19 +140,6 @@ open_plain a (p ∷ ps) h e = at_group (waited_for a p) (left_from a ps) (open_p
       → open_place (with_group p ws later) ≡ plain (open_place (with_group p ws later)).group
   at_group [] later ih e = ih e
   at_group (w ∷ ws) later ih e = h.0 e
-
--- who is waited for has not spoken
-pub unsaid_filter : (log : List Entry) (p : Place) (x : ℕ) (xs : List ℕ) → is_among x (filter (λ who. not (has_said log p who)) xs) ≡ true → has_said log p x ≡ false
-unsaid_filter log p x xs e = unless (has_said log p x) (filter_passes (λ who. not (has_said log p who)) x xs e)
-
-pub unsaid : (a : Agenda) (ps : List Place) (x : ℕ) → is_among x (waits_now (left_from a ps)) ≡ true → has_said a.log (open_place (left_from a ps)) x ≡ false
-unsaid a [] x e = absurd cc
-unsaid a (p ∷ ps) x e = at_group (waited_for a p) (left_from a ps) (λ f. unsaid_filter a.log p x (members_of a p.group p.level) f) (unsaid a ps x) e where
-  at_group : (ws : List ℕ) (later : List Open) → (is_among x ws ≡ true → has_said a.log p x ≡ false)
-      → (is_among x (waits_now later) ≡ true → has_said a.log (open_place later) x ≡ false) → is_among x (waits_now (with_group p ws later)) ≡ true
-      → has_said a.log (open_place (with_group p ws later)) x ≡ false
-  at_group [] later own ih e = ih e
-  at_group (w ∷ ws) later own ih e = own e
 
 -- ## members
 

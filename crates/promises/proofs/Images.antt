@@ -1,21 +1,22 @@
 -- Why an image goes: each act takes an image only for a cause.
-use Rattle.std.proofs.Common.{◌≡◌, ◌∙◌, ℕ, ◌+◌, ◌≤◌, ◌<◌, List, ◌⊎◌, Option, Some, None, refl, Bool, true, false, ap, sym, subst, inl, inr, map, find, length, arith}
+use Rattle.std.proofs.Common.{◌≡◌, ◌∙◌, ℕ, ◌+◌, ◌≤◌, ◌<◌, List, ◌⊎◌, Option, Some, None, refl, Bool, true, false, ap, sym, subst, inl, inr, map, find, length}
+use Rattle.std.proofs.Common.{arith}
 use Rattle.promises.proofs.Words.{Context, Backup, AppRollback, NasRollback, Failed as FailedSet, VssResult, InsufficientStorage, AsyncCancelled, Said, Mark}
-use Rattle.promises.proofs.Words.{Clean, Write, History, point_in, dropped, written, said_of, Group, open_group, Session, Op, line_of, target_in, target_of}
-use Rattle.promises.proofs.Words.{Plan, slots_of, group_of, Event, State, SetRow, Kept, is_running, in_progress, row_of, left_now, history_of, has_image}
-use Rattle.promises.proofs.Words.{kept_image, row_settled, followed, runs, failed_in, failed, NumberedFrom, has_failed, Act, enabled, idle_now, after, state}
-use Rattle.promises.proofs.Words.{row_number, kept_point, true_not_false, orderly, at, FewerIn, fewer_written, fewer_in_same, fewer_in_change, fewer_in_over}
-use Rattle.promises.proofs.Words.{fewer_images_dropped, Covers, covered, after_enabled, after_not_enabled, by_if, false_from_ne_true, Course}
-use Rattle.promises.proofs.Words.{answered as course_answered, stepped as course_stepped, timed as course_timed, change_at, Line, Provider, Idle, going_up_to}
-use Rattle.promises.proofs.Words.{set_loses_image, is_backup, Replied, cleared, with_room_if, with_room, put, write, reverted_as, images_released, closed}
-use Rattle.promises.proofs.Words.{step_made, stepped_as, ticked, later, has_no_volume, is_flush, is_failed_step, stands, Fails, IsWanted, Takes, TakesBy}
-use Rattle.promises.proofs.Words.{ImagesGoForCause, course-step_made}
+use Rattle.promises.proofs.Words.{Clean, Write, History, point_in, dropped, written, said_of, Group, Session, Op, line_of, target_in, target_of, Plan, slots_of}
+use Rattle.promises.proofs.Words.{group_of, Event, State, SetRow, Kept, is_running, in_progress, row_of, history_of, has_image, kept_image, row_settled}
+use Rattle.promises.proofs.Words.{followed, runs, failed_in, failed, NumberedFrom, has_failed, Act, enabled, idle_now, after, state, row_number, kept_point}
+use Rattle.promises.proofs.Words.{true_not_false, orderly, at, FewerIn, fewer_written, fewer_in_same, fewer_in_change, fewer_in_over, fewer_images_dropped}
+use Rattle.promises.proofs.Words.{Covers, covered, after_enabled, after_not_enabled, by_if, false_from_ne_true, Course, answered as course_answered}
+use Rattle.promises.proofs.Words.{stepped as course_stepped, timed as course_timed, change_at, Line, Provider, Idle, going_up_to, set_loses_image, is_backup}
+use Rattle.promises.proofs.Words.{Replied, cleared, with_room_if, with_room, put, write, reverted_as, images_released, closed, step_made, stepped_as, ticked}
+use Rattle.promises.proofs.Words.{later, has_no_volume, stands, Fails, IsWanted, Takes, TakesBy, ImagesGoForCause, course-step_made}
 use Rattle.scenario.specs.declared.op.Op.TheVariants as op
 use Rattle.scenario.specs.declared.line.Line.{Line as Does}
 use Rattle.vss_model.specs.declared.event.Event.TheVariants.{Answer as AnswerEvent}
 use Rattle.vss_model.proofs.StateForm.{answered, stepped}
 use Rattle.promises.specs.Gone.{IsOfSession}
-use Rattle.promises.proofs.GoneImages.{gone_dropped, gone_reverted, gone_map, gone_change, gone_group, left_in_group, least_sets, fails_as, gone_followed, gone_failed_in, none_stepped, made_keeps}
+use Rattle.promises.proofs.GoneImages.{gone_dropped, gone_reverted, gone_map, gone_change, gone_group, left_in_group, least_sets, fails_as, gone_followed}
+use Rattle.promises.proofs.GoneImages.{gone_failed_in, none_stepped, made_keeps}
 
 -- ## every act
 
@@ -148,16 +149,16 @@ module _ (s : Plan) (st : State) (num : NumberedFrom 1 st.sets) (n v : ℕ) wher
   unfolding ticked
   on_ticks k event h g = by_course event (runs st) (course_timed (st.clock + k) st.course) (later k st) refl refl h g
 
-  on_step_as : (f : Bool) (g : Option Group) → stands st n v ≡ true → stands (stepped_as f g st) n v ≡ false → Cause Provider (stepped_as f g st)
-  on_step_as true g h e = by_course Provider (runs st) (course_stepped false st.clock st.course) st refl refl h e
-  on_step_as false g h e =
-      gone_followed n v (runs st) (course_stepped true st.clock st.course) (step_made g st) (Cause Provider (stepped_as false g st)) (made_keeps n v g st h) e
+  on_step_as : (f : Bool) (g : Option Group) (u : Option ℕ) → stands st n v ≡ true → stands (stepped_as f g u st) n v ≡ false → Cause Provider (stepped_as f g u st)
+  on_step_as true g u h e = by_course Provider (runs st) (course_stepped false st.clock st.course) st refl refl h e
+  on_step_as false g u h e =
+      gone_followed n v (runs st) (course_stepped true st.clock st.course) (step_made g u st) (Cause Provider (stepped_as false g u st)) (made_keeps n v g u st h) e
       (λ r run fails i s sets. absurd (true_not_false (has_failed (course_stepped true st.clock st.course).outcome) fails
-      (none_stepped st.clock st.course (ap has_failed (ap (λ (c : Course). c.outcome) (sym (course-step_made g st)) ∙ run)))))
+      (none_stepped st.clock st.course (ap has_failed (ap (λ (c : Course). c.outcome) (sym (course-step_made g u st)) ∙ run)))))
 
   on_steps : (mark : Mark) → stands st n v ≡ true → stands (stepped mark st) n v ≡ false → Cause Provider (stepped mark st)
   unfolding stepped
-  on_steps mark h g = on_step_as (is_failed_step (is_flush (open_group (left_now st))) mark) (open_group (left_now st)) h g
+  on_steps mark h g = on_step_as _ _ _ h g
 
   goes : Covers Goes s st
   goes = record {

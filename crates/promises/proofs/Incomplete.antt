@@ -41,5 +41,5 @@ module _ (n : ℕ) where
   incomplete_cut : (o : Option SetRow) (st : State) → has_complete st.sets n ≡ false → has_complete (cut_set o st).sets n ≡ false
   incomplete_cut o st h = grind (arith, incomplete_map, changed_number, changed_result)
 
-  pub incomplete_made : (g : Option Group) (st : State) → has_complete st.sets n ≡ false → has_complete (step_made g st).sets n ≡ false
-  incomplete_made g st h = grind (arith, incomplete_cut)
+  pub incomplete_made : (g : Option Group) (v : Option ℕ) (st : State) → has_complete st.sets n ≡ false → has_complete (step_made g v st).sets n ≡ false
+  incomplete_made g v st h = grind (arith, incomplete_cut)

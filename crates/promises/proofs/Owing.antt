@@ -2,7 +2,7 @@
 -- nobody is.
 use Rattle.std.proofs.Common.{◌≡◌, ◌∙◌, ℕ, ◌+◌, ◌==◌, List, [], ◌∷◌, ◌++◌, Option, Some, None, refl, Bool, true, false, ap, sym, subst, inl, inr, map, filter, length, arith}
 use Rattle.std.specs.Prelude.{◌&&◌, ◌||◌, not, is_some, option_map, if◌then◌else◌, nat_lt}
-use Rattle.promises.proofs.Words.{list_any, list_any-append, Context, Order, SetOutcome, VssResult, AsyncCancelled, AsyncPending, BadState, Said, Lost, is_ok}
+use Rattle.promises.proofs.Words.{next_volume, list_any, list_any-append, Context, Order, SetOutcome, VssResult, AsyncCancelled, AsyncPending, BadState, Said, Lost, is_ok}
 use Rattle.promises.proofs.Words.{row_gathered, WriterRow, Mark, Write, takers, said_of, Group, Orders, Kind, Gather, Prepare, Snapshot, Complete, Member}
 use Rattle.promises.proofs.Words.{Place, Agenda, Entry, Open, plain, order_of, has_said, same_place, writers_at, groups_left, left, open_group, open_place}
 use Rattle.promises.proofs.Words.{is_among, is_working, is_done, at_place, all_say, order_now, waits_now, spent_of, Stage, Session, opened}
@@ -351,15 +351,15 @@ module _ (s : Plan) (so_far : List Act) (i : Asking) (w : ℕ) where
         (grows_answered u o (said_of answer) st.clock st.course e) (answer_turn s so_far u (said_of answer)) (calm_kept.answers u (said_of answer) st (ap is_some e) (calm_always s so_far)).1
         (λ e. (and_parts c _ e).0) (λ e. unless _ (and_parts c _ e).1)
 
-    step_course : (b : Bool) (g : Option Group) → (stepped_as b g st).course ≡ course_stepped (not b) st.clock st.course
-    step_course b g = grind (arith, course_followed)
+    step_course : (b : Bool) (g : Option Group) (v : Option ℕ) → (stepped_as b g v st).course ≡ course_stepped (not b) st.clock st.course
+    step_course b g v = grind (arith, course_followed)
 
     on_steps : (mark : Mark) (told : Reply) → is_working (left_now st) ≡ true → Next Provider mark (told, stepped mark st)
     unfolding stepped
     on_steps mark told e =
         let b = is_failed_step (is_flush (open_group (left_now st))) mark in
         let k = course_stepped (not b) st.clock st.course in
-        goes (stepped mark st) _ k (made_now (left st.course.agenda) st.clock (open_group (left st.course.agenda))) (step_course b (open_group (left_now st)))
+        goes (stepped mark st) _ k (made_now (left st.course.agenda) st.clock (open_group (left st.course.agenda))) (step_course b (open_group (left_now st)) (next_volume (left_now st)))
         (grows_stepped (not b) st.clock st.course e) (step_turn s so_far mark e) (calm_kept.steps mark st e (calm_always s so_far)).1
         (λ e. (and_parts c _ e).0) (λ e. no_step i w st.clock (left st.course.agenda) (open_group (left st.course.agenda)))
 

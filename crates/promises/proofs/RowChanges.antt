@@ -216,13 +216,13 @@ module _ (s : Plan) (so_far : List Act) where
   outcome_stepped = refl
 
   step_rows_as : (b : Bool) (mark : Mark) → is_working (left_now st) ≡ true → gives_cause s st Provider mark ≡ b
-      → after s st (record { event = Provider; mark = mark }) ≡ stepped_as b (open_group (left_now st)) st
-      → Told as_it_is (stepped_as b (open_group (left_now st)) st)
+      → after s st (record { event = Provider; mark = mark }) ≡ stepped_as b (open_group (left_now st)) (next_volume (left_now st)) st
+      → Told as_it_is (stepped_as b (open_group (left_now st)) (next_volume (left_now st)) st)
   step_rows_as true mark on e i =
-      with_set (in_progress st) (Told as_it_is (stepped_as true (open_group (left_now st)) st)) (is_busy (busy_step st.course.agenda on))
+      with_set (in_progress st) (Told as_it_is (stepped_as true (open_group (left_now st)) (next_volume (left_now st)) st)) (is_busy (busy_step st.course.agenda on))
       (λ r f. loud_course as_it_is (runs st) (course_stepped false st.clock st.course) st r f refl refl outcome_stepped (rise_stepped st.clock st.course))
   step_rows_as false mark on e i = quiet_course as_it_is Provider mark (runs st) (course_stepped true st.clock st.course)
-      (step_made (open_group (left_now st)) st) e (stay_stepped st.clock st.course) i
+      (step_made (open_group (left_now st)) (next_volume (left_now st)) st) e (stay_stepped st.clock st.course) i
 
   step_rows : (mark : Mark) → is_working (left_now st) ≡ true → after s st (record { event = Provider; mark = mark }) ≡ stepped mark st → Told as_it_is (stepped mark st)
   unfolding stepped

@@ -2,11 +2,11 @@
 -- disabled, nor what is named, nor whether the session takes all; and each writer keeps a row.
 use Rattle.std.proofs.Common.{◌≡◌, ℕ, ◌+◌, List, [], Option, Some, refl, Bool, true, false, length, arith}
 use Rattle.std.specs.Prelude.{option_map}
-use Rattle.promises.proofs.Words.{Order, VssResult, Mark, Write, Said, row_after, row_aborted, Group, Kind, Member, Agenda, is_among, open_group, IsKeptFrom}
-use Rattle.promises.proofs.Words.{from_settled, from_begun, from_answered, from_timed, Mode, Session, Plan, State, SetRow, Kept, in_progress, left_now}
-use Rattle.promises.proofs.Words.{length-rows_where, Course, is_member, posted, begun, told, answered as course_answered, worked, stepped as course_stepped}
-use Rattle.promises.proofs.Words.{timed as course_timed, Ending, runs, concluded, followed, failed_in, cleared, with_room_if, put, write, reverted_as}
-use Rattle.promises.proofs.Words.{step_made, stepped_as, ticked, later, set_loses_image, is_flush, is_failed_step}
+use Rattle.promises.proofs.Words.{Order, VssResult, Mark, Write, Said, row_after, row_aborted, Group, Kind, Member, Agenda, is_among, IsKeptFrom, from_settled}
+use Rattle.promises.proofs.Words.{from_begun, from_answered, from_timed, Mode, Session, Plan, State, SetRow, Kept, in_progress, length-rows_where, Course}
+use Rattle.promises.proofs.Words.{is_member, posted, begun, told, answered as course_answered, worked, stepped as course_stepped, timed as course_timed, Ending}
+use Rattle.promises.proofs.Words.{runs, concluded, followed, failed_in, cleared, with_room_if, put, write, reverted_as, step_made, stepped_as, ticked, later}
+use Rattle.promises.proofs.Words.{set_loses_image}
 use Rattle.set_agenda.specs.Course.{failed as course_failed}
 use Rattle.vss_model.proofs.StateForm.{answered, stepped}
 
@@ -87,19 +87,19 @@ pub on_ticked : (n : ℕ) (st : State) → SameChoice st (ticked n st)
 unfolding ticked
 on_ticked n st = on_followed (runs st) (course_timed (st.clock + n) st.course) st (later n st) refl refl (on_course_timed (st.clock + n) st.course)
 
-explicit_made : (g : Option Group) (st : State) → (step_made g st).explicit ≡ st.explicit
-explicit_made g st = grind arith
+explicit_made : (g : Option Group) (v : Option ℕ) (st : State) → (step_made g v st).explicit ≡ st.explicit
+explicit_made g v st = grind arith
 
-pub session_made : (g : Option Group) (st : State) → (step_made g st).session ≡ st.session
-session_made g st = grind arith
+pub session_made : (g : Option Group) (v : Option ℕ) (st : State) → (step_made g v st).session ≡ st.session
+session_made g v st = grind arith
 
-on_step_as : (f : Bool) (g : Option Group) (st : State) → SameChoice st (stepped_as f g st)
-on_step_as true g st = on_followed (runs st) (course_stepped false st.clock st.course) st st refl refl (on_course_stepped false st.clock st.course)
-on_step_as false g st = on_followed (runs st) (course_stepped true st.clock st.course) st (step_made g st) (explicit_made g st) (session_made g st) (on_course_stepped true st.clock st.course)
+on_step_as : (f : Bool) (g : Option Group) (v : Option ℕ) (st : State) → SameChoice st (stepped_as f g v st)
+on_step_as true g v st = on_followed (runs st) (course_stepped false st.clock st.course) st st refl refl (on_course_stepped false st.clock st.course)
+on_step_as false g v st = on_followed (runs st) (course_stepped true st.clock st.course) st (step_made g v st) (explicit_made g v st) (session_made g v st) (on_course_stepped true st.clock st.course)
 
 pub on_stepped : (mark : Mark) (st : State) → SameChoice st (stepped mark st)
 unfolding stepped
-on_stepped mark st = on_step_as (is_failed_step (is_flush (open_group (left_now st))) mark) (open_group (left_now st)) st
+on_stepped mark st = on_step_as _ _ _ st
 
 -- ## lines
 

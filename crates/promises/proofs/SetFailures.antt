@@ -30,5 +30,5 @@ changed_result n f r e = grind arith
 pub failures_cut : (o : Option SetRow) (st : State) (n : ℕ) → failure_at (cut_set o st).sets n ≡ failure_at st.sets n
 failures_cut o st n = grind (arith, failure_map, changed_number, changed_result)
 
-pub failures_made : (g : Option Group) (st : State) (n : ℕ) → failure_at (step_made g st).sets n ≡ failure_at st.sets n
-failures_made g st n = grind (arith, failures_cut)
+pub failures_made : (g : Option Group) (v : Option ℕ) (st : State) (n : ℕ) → failure_at (step_made g v st).sets n ≡ failure_at st.sets n
+failures_made g v st n = grind (arith, failures_cut)

@@ -1,8 +1,10 @@
 -- Volumes with fewer images use no more slots, and no write needs a slot there that needed none before.
-use Rattle.promises.proofs.Words.{Context, Backup, AppRollback, NasRollback, Image, History, dropped, after_set, Placed, used, needs_slot, gone_up_to, is_among, change_at, SetRow, images_dropped}
-use Rattle.promises.proofs.Words.{images_released, cut_if, cut_each, at, Each, each_map, each_change, each_gone, as_many_map, as_many_change, as_many_gone, as_many_cut}
-use Rattle.std.proofs.Common.{◌≡◌, ◌∙◌, ℕ, ◌+◌, ◌==◌, ◌≤◌, zero, suc, List, [], ◌∷◌, Option, Some, None, refl, Bool, true, map, filter, length, arith}
+use Rattle.promises.proofs.Words.{Context, Backup, AppRollback, NasRollback, Image, History, dropped, after_set, Placed, used, needs_slot, gone_up_to}
+use Rattle.promises.proofs.Words.{change_at, SetRow, images_dropped, images_released, at, Each, each_map, each_change, each_gone, as_many_map, as_many_change}
+use Rattle.promises.proofs.Words.{as_many_gone}
+use Rattle.std.proofs.Common.{◌≡◌, ◌∙◌, ℕ, ◌==◌, ◌≤◌, List, Option, Some, None, refl, Bool, true, map, filter, length, arith}
 use Rattle.std.specs.Prelude.{not, nat_lt}
+use Rattle.write_history.specs.History.{cut as history_cut}
 use Rattle.promises.proofs.Truth.{no_less}
 use Rattle.promises.proofs.Used.{Rising, rising_fewer, rising_cut, fewer_used, fewer_need, cut_used}
 
@@ -81,22 +83,13 @@ uses_less hs ks h = record { in_time = λ v t. (h.each v t).in_time; uses = λ v
 pub uses_over : (hs ks ls : List History) → UsesNoMore hs ks → UsesNoMore ks ls → UsesNoMore hs ls
 uses_over hs ks ls h g = grind arith
 
--- the cut uses no slot
-cut_in_time : (m : ℕ) (b : Bool) (h : History) → InTime h → InTime (cut_if b m h)
-cut_in_time m b h t = grind (arith, rising_cut)
+-- a new image uses no slot
+image_uses : (m n : ℕ) (h : History) → used_in n (history_cut m h) ≤ used_in n h
+image_uses m n h = grind (arith, cut_used, no_less)
 
-cut_uses : (m n : ℕ) (b : Bool) (h : History) → used_in n (cut_if b m h) ≤ used_in n h
-cut_uses m n b h = grind (arith, cut_used, no_less)
-
-each_cut : (m : ℕ) (vs : List ℕ) (u : ℕ) (hs : List History) (v : ℕ) → InTime (at hs v) → InTime (at (cut_each m vs u hs) v)
-each_cut m vs u [] v t = t
-each_cut m vs u (h ∷ hs) zero t = cut_in_time m (is_among u vs) h t
-each_cut m vs u (h ∷ hs) (suc v) t = each_cut m vs (u + 1) hs v t
-
-each_uses : (m : ℕ) (vs : List ℕ) (u : ℕ) (hs : List History) (v n : ℕ) → used_in n (at (cut_each m vs u hs) v) ≤ used_in n (at hs v)
-each_uses m vs u [] v n = no_less (used_in n (at [] v))
-each_uses m vs u (h ∷ hs) zero n = cut_uses m n (is_among u vs) h
-each_uses m vs u (h ∷ hs) (suc v) n = each_uses m vs (u + 1) hs v n
-
-pub uses_cut : (m : ℕ) (vs : List ℕ) (u : ℕ) (hs : List History) → UsesNoMore hs (cut_each m vs u hs)
-uses_cut m vs u hs = record { in_time = each_cut m vs u hs; uses = λ v n t. each_uses m vs u hs v n; as_many = as_many_cut m vs u hs }
+pub uses_image : (m u : ℕ) (hs : List History) → UsesNoMore hs (change_at u (history_cut m) hs)
+uses_image m u hs = record {
+  in_time = each_change (λ x y. InTime x → InTime y) (λ x t. t) (history_cut m) (λ x t. rising_cut m 0 (length x.writes) x.images t) u hs;
+  uses = λ v n t. each_change (λ x y. used_in n y ≤ used_in n x) (λ x. no_less (used_in n x)) (history_cut m) (image_uses m n) u hs v;
+  as_many = as_many_change (history_cut m) u hs;
+}

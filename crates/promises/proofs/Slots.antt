@@ -1,20 +1,21 @@
 -- Images never use more slots than their group has: of each change of the volumes, that it leaves it so.
-use Rattle.std.proofs.Common.{◌≡◌, ◌∙◌, ℕ, ◌+◌, ◌==◌, ◌≤◌, ◌<◌, suc, List, [], ◌∷◌, ◌++◌, Option, Some, None, refl, Bool, true, false, ap, sym, subst, map, fold, length, arith}
+use Rattle.std.proofs.Common.{◌≡◌, ◌∙◌, ℕ, ◌+◌, ◌==◌, ◌≤◌, ◌<◌, suc, List, [], ◌∷◌, ◌++◌, Option, Some, None, refl, Bool, true, false, ap, sym, subst, map}
+use Rattle.std.proofs.Common.{fold, length, arith}
 use Rattle.std.specs.Prelude.{if◌then◌else◌, slice_get, option_map}
 use Rattle.promises.proofs.Words.{slice_get_within, get_or_from_slice_get, slice_get-map, VssResult, InsufficientStorage, AsyncCancelled, Said, Mark, Clean}
 use Rattle.promises.proofs.Words.{Fault, FaultAfter, Write, Image, History, fresh, point_in, written, reverted, reverted_in_part, AreInTime, Placed, Copy}
-use Rattle.promises.proofs.Words.{named, copy_of, copies_of, copies_from, group_used, used, needs_slot, said_of, Group, Cut, open_group, Session, VolumeRow}
-use Rattle.promises.proofs.Words.{IsPlan, group_slots, Plan, slots_in, slots_of, placed, placed_in, group_of, blocks_of, Event, State, SetRow, Kept}
-use Rattle.promises.proofs.Words.{in_progress, left_now, kept_image, Act, enabled, idle_now, after, state, state-append, UpTo, images_up_to, kept_point}
-use Rattle.promises.proofs.Words.{row_number, images_in_time, orderly, at, as_many_change, within, SlotsSuffice, Covers, covered, after_enabled}
-use Rattle.promises.proofs.Words.{after_not_enabled, Course, answered as course_answered, timed as course_timed, change_at, Ending, SetFails, ending, runs}
-use Rattle.promises.proofs.Words.{concluded, followed, failed_in, failed, Replied, cleared, with_room_if, put, write, reverted_as, closed, cut_set, step_made}
-use Rattle.promises.proofs.Words.{stepped_as, ticked, later, going_up_to, set_loses_image, has_no_volume, is_flush, is_failed_step, number_is}
+use Rattle.promises.proofs.Words.{named, copy_of, copies_of, copies_from, group_used, used, needs_slot, said_of, Group, Cut, Commit, Session, VolumeRow, IsPlan}
+use Rattle.promises.proofs.Words.{group_slots, Plan, slots_in, slots_of, placed, placed_in, group_of, blocks_of, Event, State, SetRow, Kept, in_progress}
+use Rattle.promises.proofs.Words.{kept_image, Act, enabled, idle_now, after, state, state-append, UpTo, images_up_to, kept_point, row_number, images_in_time}
+use Rattle.promises.proofs.Words.{orderly, at, as_many_change, within, SlotsSuffice, Covers, covered, after_enabled, after_not_enabled, Course}
+use Rattle.promises.proofs.Words.{answered as course_answered, timed as course_timed, change_at, Ending, SetFails, ending, runs, concluded, followed, failed_in}
+use Rattle.promises.proofs.Words.{failed, Replied, cleared, with_room_if, put, write, reverted_as, closed, cut_set, image_made, step_made, stepped_as, ticked}
+use Rattle.promises.proofs.Words.{later, going_up_to, set_loses_image, has_no_volume, number_is}
 use Rattle.vss_model.proofs.StateForm.{answered, stepped}
 use Rattle.promises.proofs.Truth.{chain, same_number}
 use Rattle.promises.proofs.GroupUsed.{group_less, group_other, group_more, changed_uses, enough_goes, one_left}
 use Rattle.promises.proofs.Shrinks.{InTime, used_in, LessIn, less_in_same, less_in_over, less_in_map, less_in_change, less_in_gone, less_images_dropped}
-use Rattle.promises.proofs.Shrinks.{less_released, UsesNoMore, uses_less, uses_over, uses_cut}
+use Rattle.promises.proofs.Shrinks.{less_released, UsesNoMore, uses_less, uses_over, uses_image}
 use Rattle.promises.proofs.Used.{rising, one_if, written_used, reverted_used, restored_used}
 use Rattle.promises.proofs.Orders.{smaller}
 
@@ -175,20 +176,25 @@ module _ (s : Plan) (plan : IsPlan s) (st : State) (time : (v : ℕ) → AreInTi
     uses_same : UsesNoMore st.volumes st.volumes
     uses_same = uses_less st.volumes st.volumes (less_in_same st.volumes)
 
-    uses_cut_set : (o : Option SetRow) → UsesNoMore st.volumes (cut_set o st).volumes
-    uses_cut_set None = uses_same
-    uses_cut_set (Some r) = uses_cut r.number r.volumes 0 st.volumes
+    uses_made_in : (o : Option SetRow) (v : Option ℕ) → UsesNoMore st.volumes (image_made o v st).volumes
+    uses_made_in (Some r) (Some v) = uses_image r.number v st.volumes
+    uses_made_in _ _ = uses_same
 
-    uses_made : (g : Option Group) → UsesNoMore st.volumes (step_made g st).volumes
-    uses_made (Some Cut) = uses_cut_set (in_progress st)
-    uses_made _ = uses_same
+    uses_cut : (o : Option SetRow) → UsesNoMore st.volumes (cut_set o st).volumes
+    uses_cut None = uses_same
+    uses_cut (Some r) = uses_same
 
-    fit_step_as : (b : Bool) (g : Option Group) → Fit (stepped_as b g st).volumes
-    fit_step_as b g = grind (arith, by_less, less_followed, by_uses, uses_over, uses_made, uses_less)
+    uses_made : (g : Option Group) (v : Option ℕ) → UsesNoMore st.volumes (step_made g v st).volumes
+    uses_made (Some Cut) v = uses_cut (in_progress st)
+    uses_made (Some Commit) v = uses_made_in (in_progress st) v
+    uses_made _ v = uses_same
+
+    fit_step_as : (b : Bool) (g : Option Group) (v : Option ℕ) → Fit (stepped_as b g v st).volumes
+    fit_step_as b g v = grind (arith, by_less, less_followed, by_uses, uses_over, uses_made, uses_less)
 
     fit_step : (mark : Mark) → Fit (stepped mark st).volumes
     unfolding stepped
-    fit_step mark = fit_step_as (is_failed_step (is_flush (open_group (left_now st))) mark) (open_group (left_now st))
+    fit_step mark = fit_step_as _ _ _
 
     -- ## the session ends
 

@@ -1,13 +1,12 @@
 -- What an act makes of a session: its set fails, its agenda ends, or it stays as it is.
 use Rattle.std.proofs.Common.{◌≡◌, ◌∙◌, ℕ, List, ◌⊎◌, Option, Some, None, refl, Bool, true, false, ap, subst, inl, inr, map, arith}
 use Rattle.std.specs.Prelude.{is_some, option_map}
-use Rattle.promises.proofs.Words.{SetOutcome, VssResult, AsyncCancelled, Said, Mark, Write, Group, Agenda, open_group, is_working, Session, makes_set}
-use Rattle.promises.proofs.Words.{agenda_ended, set_failed, Plan, State, SetRow, Kept, is_running, in_progress, left_now, change_set, with_volume, IsOfSession}
-use Rattle.promises.proofs.Words.{has_failed, Act, state, outcome_is_running, course-step_made, MovesOn, moves_answered, moves_stepped, moves_timed, orderly}
-use Rattle.promises.proofs.Words.{running_found, row_running, row_settles, result-settled, failure_of, failure_in, set_failure, Failed as FailedSet, Course}
+use Rattle.promises.proofs.Words.{SetOutcome, VssResult, AsyncCancelled, Said, Mark, Write, Group, Agenda, is_working, Session, makes_set, agenda_ended}
+use Rattle.promises.proofs.Words.{set_failed, Plan, State, SetRow, Kept, is_running, in_progress, left_now, change_set, with_volume, IsOfSession, has_failed}
+use Rattle.promises.proofs.Words.{Act, state, outcome_is_running, course-step_made, MovesOn, moves_answered, moves_stepped, moves_timed, orderly, running_found}
+use Rattle.promises.proofs.Words.{row_running, row_settles, result-settled, failure_of, failure_in, set_failure, Failed as FailedSet, Course}
 use Rattle.promises.proofs.Words.{stepped as course_stepped, AgendaEnds, SetFails, ending, row_settled, runs, concluded, followed, failed_in, failed, cleared}
-use Rattle.promises.proofs.Words.{with_room_if, put, write, reverted_as, step_made, stepped_as, ticked, set_loses_image, is_flush, is_failed_step}
-use Rattle.promises.proofs.Words.{true_not_false}
+use Rattle.promises.proofs.Words.{with_room_if, put, write, reverted_as, step_made, stepped_as, ticked, set_loses_image, true_not_false}
 use Rattle.vss_names.specs.declared.set_outcome.SetOutcome.TheVariants.{Running as RunningSet, Complete as CompleteSet}
 use Rattle.set_agenda.specs.Course.{failed as course_failed}
 use Rattle.vss_model.proofs.StateForm.{answered, stepped}
@@ -178,18 +177,18 @@ module _ (s : Plan) (so_far : List Act) where
   step_calm : is_working (left_now st) ≡ true → has_failed (course_stepped true st.clock st.course).outcome ≡ true → ⊥
   step_calm e f = grind (arith, set_there, calm_stepped, none_stepped, outcome_is_running, true_not_false, busy_there, busy_step)
 
-  step_as : (b : Bool) (g : Option Group) → is_working (left_now st) ≡ true → Turn st (stepped_as b g st) (runs st)
-  step_as true g e =
+  step_as : (b : Bool) (g : Option Group) (v : Option ℕ) → is_working (left_now st) ≡ true → Turn st (stepped_as b g v st) (runs st)
+  step_as true g v e =
       let c = course_stepped false st.clock st.course in
       followed_turn c st refl (λ n. refl) (calm_stepped false st.clock st.course e) (λ f. refl) (runs st) refl (still_idle c (moves_stepped false st.clock st.course e))
-  step_as false g e =
+  step_as false g v e =
       let c = course_stepped true st.clock st.course in
-      followed_turn c (step_made g st) (session_made g st) (failures_made g st) (calm_stepped true st.clock st.course e) (λ f. absurd (step_calm e f)) (runs st)
-      (course-step_made g st) (still_idle c (moves_stepped true st.clock st.course e))
+      followed_turn c (step_made g v st) (session_made g v st) (failures_made g v st) (calm_stepped true st.clock st.course e) (λ f. absurd (step_calm e f)) (runs st)
+      (course-step_made g v st) (still_idle c (moves_stepped true st.clock st.course e))
 
   pub step_turn : (mark : Mark) → is_working (left_now st) ≡ true → Turn st (stepped mark st) (runs st)
   unfolding stepped
-  step_turn mark e = step_as (is_failed_step (is_flush (open_group (left_now st))) mark) (open_group (left_now st)) e
+  step_turn mark e = step_as _ _ _ e
 
   -- ## a set starts, or a volume is added
 

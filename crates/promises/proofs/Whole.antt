@@ -7,7 +7,7 @@ use Rattle.promises.proofs.Words.{said_stays, IsOf, Tied, tied, true_not_false, 
 use Rattle.promises.proofs.Words.{Open, plain, places, group_code, level_code, same_place, order_of, is_orders, has_said, writers_at, members_of, waited_for}
 use Rattle.promises.proofs.Words.{left_from, groups_left, open_place, is_among, waits_now, is_done, at_place, all_say, Deed, level_of, stage, Rising, is_heard}
 use Rattle.promises.proofs.Words.{is_agreed, is_made, is_again, AreOnce, is_failure, heard, agreed, made, IsWholeWay, CompletesByTheWay, Spoke, number_is}
-use Rattle.promises.proofs.Words.{unless, all_said, either_way, filter_passes}
+use Rattle.promises.proofs.Words.{unless, all_said, either_way, filter_passes, waits_unsaid}
 use Rattle.set_agenda.specs.Agenda.{has_failed}
 use Rattle.promises.specs.Way.{failed}
 use Rattle.promises.proofs.Truth.{same_number}
@@ -16,7 +16,7 @@ use Rattle.promises.proofs.Levels.{Ascends, MembersOf, levels_are, members_ascen
 use Rattle.promises.proofs.Speaks.{deed_at, deed_in, said_at, Speaks, IsOne}
 use Rattle.promises.proofs.Stages.{deeds_in, deeds_append, any_more, any_said, group_stage, place_stage, leveled, IsOfLevel, open_stage, Below, below_more}
 use Rattle.promises.proofs.Stages.{below_append, rising_append, stages_more, closed_stays, goes_up, Closed, closed_below, snapshot_from}
-use Rattle.promises.proofs.Heard.{said_deed, place_of, volume_number, Good, good_unspoken, steps_plain, open_plain, unsaid, order_member, heard_writer, made_volume, alone, is_step}
+use Rattle.promises.proofs.Heard.{said_deed, place_of, volume_number, Good, good_unspoken, steps_plain, open_plain, order_member, heard_writer, made_volume, alone, is_step}
 use Rattle.promises.proofs.Once.{once_one, Apart, once_spoken, waits_apart, none_given, open_unleveled, level_some, is_order_place}
 use Rattle.promises.proofs.Orders.{agreed_at, post_group, heard_group, heard_agreed, all_among, heard_at, prepare_heard, freeze_heard, thaw_heard, of_group_level, levels_given, open_leveled}
 use Rattle.promises.proofs.Scripts.{kept_among}
@@ -136,7 +136,7 @@ module _ (s : Plan) (said : Said) (now : ℕ) (ws : List ℕ) (a : Agenda) (k : 
       let place : p ≡ plain h = plain_place (ap is_orders e ∙ s) ∙ ap plain e in
       let not_yet : has_said a.log (plain h) (volume_number v)
       ≡ false = subst (λ (q : Place). has_said a.log q (volume_number v) ≡ false) place
-      (subst (λ x. has_said a.log p x ≡ false) n (unsaid a (places a.kind) u w)) in
+      (subst (λ x. has_said a.log p x ≡ false) n (waits_unsaid a (places a.kind) u w)) in
       false_from_ne_true (made h v (deeds_in a)) (λ i. true_not_false (has_said a.log (plain h) (volume_number v)) (g.logged h v i) not_yet)
 
   writer_place : MembersOf (level_of s) a.members → (u : ℕ) (o : Order) → is_among u ws ≡ true → p.group ≡ Orders o → p ≡ place_of s o u
@@ -152,7 +152,7 @@ module _ (s : Plan) (said : Said) (now : ℕ) (ws : List ℕ) (a : Agenda) (k : 
 
   not_heard : MembersOf (level_of s) a.members → (o : Order) → p.group ≡ Orders o → (u : ℕ) → is_among u ws ≡ true → heard o u (deeds_in a) ≡ false
   not_heard lv o e u f =
-      let not_yet : has_said a.log (place_of s o u) u ≡ false = subst (λ (q : Place). has_said a.log q u ≡ false) (writer_place lv u o f e) (unsaid a (places a.kind) u (waits_in ws a who u f)) in
+      let not_yet : has_said a.log (place_of s o u) u ≡ false = subst (λ (q : Place). has_said a.log q u ≡ false) (writer_place lv u o f e) (waits_unsaid a (places a.kind) u (waits_in ws a who u f)) in
       false_from_ne_true (heard o u (deeds_in a)) (λ i. true_not_false (has_said a.log (place_of s o u) u) (g.spoken lv o u i) not_yet)
 
   spoken_deeds : (o : Order) (us : List ℕ) → p.group ≡ Orders o → map (λ u. Spoke o u said now) us ≡ map deed_in (map (at_place p said now) us)

@@ -2,15 +2,15 @@
 use Rattle.std.proofs.Common.{◌≡◌, ◌∙◌, ℕ, ◌+◌, zero, suc, List, [], ◌∷◌, Option, Some, None, refl, Bool, true, false, ap, sym, subst, fold, min, arith}
 use Rattle.std.specs.Prelude.{◌&&◌, not, option_map, slice_get}
 use Rattle.promises.proofs.Words.{Order, VssResult, AsyncCancelled, Said, Ok, Lost, WriterRow, is_ok, row_after, default_freeze, Mark, Write, said_of, Group}
-use Rattle.promises.proofs.Words.{Kind, Limit, Member, Agenda, Open, order_of, is_orders, groups_left, left, open_group, waits_now, order_now, is_among}
-use Rattle.promises.proofs.Words.{open_order, is_working, next_member, all_say, Running as RunningLimit, answer_runs, running_at, running_limits, spent_of}
-use Rattle.promises.proofs.Words.{none_and_some, spent_here, Session, Plan, Event, State, SetRow, Kept, start, in_progress, left_now, Act, enabled, idle_now}
-use Rattle.promises.proofs.Words.{after, state, is_late_in, asked_if, asked_waits, StandsWithinLimits, Covers, covered, after_enabled, after_not_enabled, by_if}
+use Rattle.promises.proofs.Words.{Kind, Limit, Member, Agenda, Open, order_of, is_orders, groups_left, left, waits_now, order_now, is_among, open_order}
+use Rattle.promises.proofs.Words.{is_working, next_member, all_say, Running as RunningLimit, answer_runs, running_at, running_limits, spent_of, none_and_some}
+use Rattle.promises.proofs.Words.{spent_here, Session, Plan, Event, State, SetRow, Kept, start, in_progress, left_now, Act, enabled, idle_now, after, state}
+use Rattle.promises.proofs.Words.{is_late_in, asked_if, asked_waits, StandsWithinLimits, Covers, covered, after_enabled, after_not_enabled, by_if}
 use Rattle.promises.proofs.Words.{false_from_ne_true, Answer as AnswerLimit, Course, posted, rows_where, row_if, limit_of, freeze_limit, limits_now, settled_if}
 use Rattle.promises.proofs.Words.{settled_in, settled, begun, told, is_decisive, decided, answered_to, answered as course_answered, worked}
 use Rattle.promises.proofs.Words.{stepped as course_stepped, lost_to, lost, fails_set, lost_decided, treated_as, treated, timed as course_timed, released}
 use Rattle.promises.proofs.Words.{Ending, ending, runs, concluded, followed, failed_in, failed, Replied, with_room_if, put, write, reverted_as, closed}
-use Rattle.promises.proofs.Words.{step_made, stepped_as, ticked, has_no_volume, is_flush, is_failed_step, unspoken, head_waits}
+use Rattle.promises.proofs.Words.{step_made, stepped_as, ticked, has_no_volume, unspoken, head_waits}
 use Rattle.set_agenda.specs.declared.limit.Limit.TheVariants.{Hold as HoldLimit, Freeze as FreezeLimit}
 use Rattle.set_agenda.specs.Course.{failed as course_failed}
 use Rattle.vss_model.proofs.StateForm.{answered, stepped}
@@ -206,15 +206,15 @@ module _ (s : Plan) (st : State) (h : InTimeNow st) where
   unfolding ticked
   on_tick n = grind (arith, followed_in_time, keeps_timed, in_order)
 
-  on_step_as : (b : Bool) (g : Option Group) → is_working (left_now st) ≡ true → InTimeNow (stepped_as b g st)
-  on_step_as true g e = followed_in_time (runs st) (course_stepped false st.clock st.course) st (keeps_stepped false st.clock st.course e h)
-  on_step_as false g e =
-      followed_in_time (runs st) (course_stepped true st.clock st.course) (step_made g st)
-      (subst (λ n. Keeps n (course_stepped true st.clock st.course)) (sym (clock-made g st)) (keeps_stepped true st.clock st.course e h))
+  on_step_as : (b : Bool) (g : Option Group) (v : Option ℕ) → is_working (left_now st) ≡ true → InTimeNow (stepped_as b g v st)
+  on_step_as true g v e = followed_in_time (runs st) (course_stepped false st.clock st.course) st (keeps_stepped false st.clock st.course e h)
+  on_step_as false g v e =
+      followed_in_time (runs st) (course_stepped true st.clock st.course) (step_made g v st)
+      (subst (λ n. Keeps n (course_stepped true st.clock st.course)) (sym (clock-made g v st)) (keeps_stepped true st.clock st.course e h))
 
   on_step : (mark : Mark) → is_working (left_now st) ≡ true → InTimeNow (stepped mark st)
   unfolding stepped
-  on_step mark e = on_step_as (is_failed_step (is_flush (open_group (left_now st))) mark) (open_group (left_now st)) e
+  on_step mark e = on_step_as _ _ _ e
 
   abbrev Next : Event → Mark → Replied → Type 0
   Next event mark x = InTimeNow x.1

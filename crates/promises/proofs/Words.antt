@@ -131,17 +131,17 @@ pub use Rattle.vss_model.proofs.CourseCalls.{Settles, Stops, asked_if, asked_wai
 pub use Rattle.vss_model.proofs.CourseFacts.{of_calls}
 pub use Rattle.vss_model.proofs.CutAppend.{append_nothing, cut-append, or_cut}
 pub use Rattle.vss_model.proofs.CutLog.{either_way, said_stays}
-pub use Rattle.vss_model.proofs.CutStep.{after_cut, both}
+pub use Rattle.vss_model.proofs.CutStep.{after_commit, after_cut, both, is_commit}
 pub use Rattle.vss_model.proofs.Ended.{complete_ends}
 pub use Rattle.vss_model.proofs.FewTurns.{length-rows_where, volumes_cut}
 pub use Rattle.vss_model.proofs.FewerImages.{as_many_volumes, fewer_after, fewer_followed, fewer_images_dropped}
 pub use Rattle.vss_model.proofs.FlushFails.{flush_fails, outcome_is_running}
-pub use Rattle.vss_model.proofs.Gathered.{course-concluded, failed_agenda, filter_member, filter_passes, known_at, member_passes, named_known}
+pub use Rattle.vss_model.proofs.Gathered.{course-concluded, failed_agenda, filter_member, known_at, member_passes, named_known}
 pub use Rattle.vss_model.proofs.Gathered.{named_known_components}
 pub use Rattle.vss_model.proofs.GoesOn.{not_false}
-pub use Rattle.vss_model.proofs.Headline.{each_line_once, frozen_for_set, held_for_set, keeps_set, leaves_nothing, reads_as_at_cut}
+pub use Rattle.vss_model.proofs.Headline.{each_line_once, frozen_for_set, keeps_set, leaves_nothing, reads_as_at_cut}
 pub use Rattle.vss_model.proofs.HeldOfSet.{Follows, IsOf, Tied, goes_answered, goes_stepped, goes_timed, tied}
-pub use Rattle.vss_model.proofs.HeldWrites.{rewrites, same_writes}
+pub use Rattle.vss_model.proofs.HeldWrites.{held_for_set, rewrites, same_writes}
 pub use Rattle.vss_model.proofs.Late.{Decides, answer_since, freeze_late, freeze_since, hold_late, same_freeze, same_hold, same_hold_step}
 pub use Rattle.vss_model.proofs.LogRule.{course-step_made, unspoken}
 pub use Rattle.vss_model.proofs.Named.{AreOver}
@@ -154,15 +154,15 @@ pub use Rattle.vss_model.proofs.OrderlyActs.{moves_stepped, moves_timed, none_af
 pub use Rattle.vss_model.proofs.Rows.{complete_found, found_above, has_complete, incomplete_append, incomplete_map, incomplete_settled, kind_is, none_below}
 pub use Rattle.vss_model.proofs.Rows.{none_runs, result-settled, row_running, row_settles, running_found, running_incomplete}
 pub use Rattle.vss_model.proofs.Rule.{of_changes, of_writes, on_after}
-pub use Rattle.vss_model.proofs.Spoken.{among_filter, among_members, waits_members}
+pub use Rattle.vss_model.proofs.Spoken.{among_filter, among_members, filter_passes, waits_members, waits_unsaid}
 pub use Rattle.vss_model.proofs.StateForm.{IsKeptByChanges, IsKeptByWrites, Replied, add, add_to, await_last, begin_in, change_set, cleared, complete}
 pub use Rattle.vss_model.proofs.StateForm.{component_in, concluded, cut_set, delete_kept, disable, does, end_session, failed, failed_in, followed, gather}
-pub use Rattle.vss_model.proofs.StateForm.{happens, image_block, image_blocks, images_dropped, images_released, judged, later, line, line_in, named_as, pending}
+pub use Rattle.vss_model.proofs.StateForm.{happens, image_block, image_blocks, images_dropped, image_made, images_released, judged, later, line, line_in, named_as, pending}
 pub use Rattle.vss_model.proofs.StateForm.{properties, put, refused, revert_to, reverted_as, session_line, start_set, step_made, stepped_as, with_room}
 pub use Rattle.vss_model.proofs.StateForm.{with_room_if, write}
 unfoldable pub use Rattle.vss_model.proofs.StateForm.{called, closed, delete_image, delete_set, followed, revert, ticked, write}
 pub use Rattle.vss_model.proofs.TrailLength.{trail_is_short}
-pub use Rattle.vss_model.proofs.Volumes.{Each, FewerIn, as_many_change, as_many_cut, as_many_gone, as_many_map, at, change_other, each_change, each_gone}
+pub use Rattle.vss_model.proofs.Volumes.{Each, FewerIn, as_many_change, as_many_gone, as_many_map, at, change_other, each_change, each_gone}
 pub use Rattle.vss_model.proofs.Volumes.{each_map, fewer_in_change, fewer_in_over, fewer_in_same, fewer_written}
 pub use Rattle.vss_model.proofs.Waiting.{WaitsWell, idle_spends, waits-left_from}
 pub use Rattle.vss_model.specs.Acts.{Act, after, answer_reply, enabled, event_allows, event_reply, idle_now, is_blocked, is_free, may_stop_after}
@@ -186,7 +186,7 @@ pub use Rattle.vss_model.specs.Sessions.{add_refusal, has_no_volume, is_disabled
 pub use Rattle.vss_model.specs.Sessions.{new_set, selected, volumes_of, with_volume}
 pub use Rattle.vss_model.specs.State.{Kept, SetRow, State, has_image, history_in, history_of, in_progress, is_complete, is_frozen, is_held, is_kept_set}
 pub use Rattle.vss_model.specs.State.{is_running, kept, kept_at, kept_if, kept_image, kept_of, left_now, row_changed, row_of, row_of_writer, start}
-pub use Rattle.vss_model.specs.Steps.{cut_each, cut_if, is_failed_step, is_flush, row_cut, with_cut}
+pub use Rattle.vss_model.specs.Steps.{is_failed_step, is_flush, row_cut, with_cut}
 pub use Rattle.vss_model.specs.Trail.{acts, acts_if, answer_event, event_of, is_legal, run, script_event}
 pub use Rattle.vss_model.specs.declared.event.Event.{Event}
 pub use Rattle.vss_model.specs.declared.event.Event.TheVariants.{Idle, Line, Provider}

@@ -5,7 +5,7 @@ ghost use Rattle.write_history.specs.declared.move_item.Move.{Move};
 ghost use Rattle.scenario.specs.Plan.{Plan, lines_of};
 ghost use Rattle.write_history.specs.History.{content, point_in, AreInTime};
 ghost use Rattle.write_history.specs.Slots.{Placed, copies, used_by};
-ghost use Rattle.set_agenda.specs.declared.group.Group.TheVariants.{Hold, Cut, Release};
+ghost use Rattle.set_agenda.specs.declared.group.Group.TheVariants.{Hold, Cut, Commit, Release};
 ghost use Rattle.set_agenda.specs.Agenda.{Agenda, plain, open_group, has_said, is_among, is_asking, is_working, next_member};
 ghost use Rattle.component_doc.specs.Selection.{Named};
 ghost use Rattle.component_doc.specs.Over.{IsSelectedOver};
@@ -13,7 +13,7 @@ ghost use Rattle.vss_model.specs.Sessions.{most_images, known_metas, has_failed_
 ghost use Rattle.set_agenda.specs.Limits.{spent_of};
 ghost use Rattle.set_agenda.specs.Course.{is_member, limits_now};
 ghost use Rattle.vss_model.specs.Ending.{runs};
-ghost use Rattle.vss_model.specs.State.{State, SetRow, in_progress, row_of, history_of, left_now, is_held, is_frozen};
+ghost use Rattle.vss_model.specs.State.{State, SetRow, in_progress, row_of, history_of, has_image, left_now, is_held, is_frozen};
 ghost use Rattle.vss_model.specs.Cut.{cut, is_cut_group, IsShownAt, IsCutAt};
 ghost use Rattle.requestor.specs.declared.stage.Stage.TheVariants.{Opened};
 ghost use Rattle.requestor.specs.Check.{is_stage};
@@ -99,8 +99,18 @@ pub fn image_in_progress_is_the_newest()
         → IsNewest r.number p (history_of (state s acts) v).images }
 {}
 
-/// From the Cut until the volume's Release the image of the set in progress names no block: its point is the end of the
-/// volume's effective writes, and it uses no slot.
+/// A volume of the set in progress has no image of it before its Commit step, and has one as soon as that step is made.
+pub fn images_come_at_commit()
+    ensures before { (s : Plan) (acts : List Act) (r : SetRow) (a : Agenda) (v : ℕ) → in_progress (state s acts) ≡ Some r
+        → (state s acts).course.agenda ≡ Some a → has_said a.log (plain Commit) v ≡ false
+        → has_image r.number (history_of (state s acts) v) ≡ false }
+    ensures after { (s : Plan) (acts : List Act) (r : SetRow) (a : Agenda) (v : ℕ) → in_progress (state s acts) ≡ Some r
+        → (state s acts).course.agenda ≡ Some a → has_said a.log (plain Commit) v ≡ true → is_among v r.volumes ≡ true
+        → v < length s.volumes → has_image r.number (history_of (state s acts) v) ≡ true }
+{}
+
+/// From its Commit step until the volume's Release the image of the set in progress names no block: its point is the end of
+/// the volume's effective writes, and it uses no slot.
 pub fn held_image_names_no_block()
     ensures point { (s : Plan) (acts : List Act) (r : SetRow) (v p : ℕ) → in_progress (state s acts) ≡ Some r
         → is_held (state s acts) v ≡ true → point_in r.number (history_of (state s acts) v).images ≡ Some p

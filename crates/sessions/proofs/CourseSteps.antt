@@ -13,10 +13,10 @@ use Rattle.set_agenda.specs.declared.group.Group.TheVariants as group
 use Rattle.set_agenda.specs.Course.{Course, sent, lost_writers, answered as course_answered, stepped as course_stepped, timed as course_timed}
 use Rattle.vss_model.specs.declared.told.Told.TheVariants as told
 use Rattle.vss_model.specs.Steps.{row_cut, with_cut, is_flush, is_failed_step}
-use Rattle.vss_model.proofs.StateForm.{answered, stepped, stepped_as, step_made, cut_set, later, ticked}
+use Rattle.vss_model.proofs.StateForm.{answered, stepped, stepped_as, step_made, cut_set, image_made, later, ticked}
 use Rattle.vss_model.specs.Effects.{ended_of, lost_after, lost_order_if}
-use Rattle.vss_model.specs.Changes.{after_changes, cuts_at, steps}
-use Rattle.vss_model.proofs.Changes.{goes_on_own, passes_are, cuts_are, steps_are}
+use Rattle.vss_model.specs.Changes.{after_changes, made_at, steps}
+use Rattle.vss_model.proofs.Changes.{goes_on_own, passes_are, made_are, steps_are}
 use Rattle.sessions.proofs.Keeping.{keeps_course, keeps_rows}
 use Rattle.sessions.proofs.Moving.{Happens}
 use Rattle.sessions.proofs.Newest.{changed_bare, changed_by_number, changed_none}
@@ -59,7 +59,7 @@ answer_happens s new w a o m st stands came =
       came = came;
     }
 
--- ## the Cut step
+-- ## what a step does beside its entry
 
 cut_same : (n now : ℕ) → IsSameRow (row_cut n now)
 cut_same n now = same_changed n (with_cut now) (λ r. refl) (λ r. refl)
@@ -78,8 +78,11 @@ pub record IsBesides (st x : State) : Type 0 where
 besides_cut : (st : State) (o : Option SetRow) → in_progress st ≡ o → IsInOrder st → IsBesides st (cut_set o st)
 besides_cut st o e order = grind (arith, cut_same, find-map, numbered-map, newest-map, of_session, ended_mapped)
 
-besides : (st : State) (g : Group) → IsInOrder st → IsBesides st (step_made (Some g) st)
-besides st g order = grind (arith, besides_cut)
+besides_made : (st : State) (o : Option SetRow) (v : Option ℕ) → IsInOrder st → IsBesides st (image_made o v st)
+besides_made st o v order = grind arith
+
+besides : (st : State) (g : Group) (v : Option ℕ) → IsInOrder st → IsBesides st (step_made (Some g) v st)
+besides st g v order = grind (arith, besides_cut, besides_made)
 
 set_in : (x : SessionsValue) (st : State) (o : Option SetRow) (now : ℕ) → in_progress st ≡ o → now ≡ st.clock → IsInOrder st → Keeps x st
     → Keeps (record x { sets = map (running_changed (with_cut now)) x.sets }) (cut_set o st)
@@ -90,29 +93,29 @@ set_in x st (Some r) now e clock order kept = keeps_rows x st x.requestor st.ses
     (ap (map (running_changed (with_cut now))) kept.sets ∙ changed_bare (with_cut now) (λ q. refl) st.sets
     ∙ ap (map bare) (ap (λ (t : ℕ). map (running_changed (with_cut t)) st.sets) clock ∙ changed_by_number (with_cut st.clock) 1 st.sets r order.numbered order.newest e))
 
-pub is_cut_now : (x : SessionsValue) (st : State) (g : Group) (now : ℕ) → is_cut_group (Some g) ≡ true → now ≡ x.clock → IsInOrder st → Keeps x st
-    → Keeps (record x { sets = map (running_changed (with_cut now)) x.sets }) (after_changes st (cuts_at (Some g) st))
-is_cut_now x st g now e clock order kept = subst (Keeps _) (sym (cuts_are (Some g) st)) (made g e) where
-  made : (g : Group) → is_cut_group (Some g) ≡ true → Keeps (record x { sets = map (running_changed (with_cut now)) x.sets }) (step_made (Some g) st)
+pub is_cut_now : (x : SessionsValue) (st : State) (g : Group) (v : Option ℕ) (now : ℕ) → is_cut_group (Some g) ≡ true → now ≡ x.clock → IsInOrder st → Keeps x st
+    → Keeps (record x { sets = map (running_changed (with_cut now)) x.sets }) (after_changes st (made_at (Some g) v st))
+is_cut_now x st g v now e clock order kept = subst (Keeps _) (sym (made_are (Some g) v st)) (made g e) where
+  made : (g : Group) → is_cut_group (Some g) ≡ true → Keeps (record x { sets = map (running_changed (with_cut now)) x.sets }) (step_made (Some g) v st)
   made g e = grind (arith, set_in)
 
 -- ## a step of the provider
 
 step_made_goes : (st : State) (g : Group) (v : Option ℕ) (new : SessionsValue) (m : SessionMove) → IsInOrder st
-    → ((x : State) → x ≡ step_made (Some g) st → IsInOrder x → HasCome (told.Step g v false) [] None (in_progress x) x.volumes (followed (runs x) (course_stepped true x.clock x.course) x) new m)
-    → HasCome (told.Step g v false) [] None (in_progress st) (step_made (Some g) st).volumes (stepped_as false (Some g) st) new m
+    → ((x : State) → x ≡ step_made (Some g) v st → IsInOrder x → HasCome (told.Step g v false) [] None (in_progress x) x.volumes (followed (runs x) (course_stepped true x.clock x.course) x) new m)
+    → HasCome (told.Step g v false) [] None (in_progress st) (step_made (Some g) v st).volumes (stepped_as false (Some g) v st) new m
 step_made_goes st g v new m order comes = grind (arith, besides)
 
 -- what a step that is made comes to, from the state after what it does beside its entry
 pub step_goes : (st : State) (g : Group) (v : Option ℕ) (new : SessionsValue) (m : SessionMove) → IsInOrder st
-    → ((x : State) → x ≡ step_made (Some g) st → IsInOrder x → HasCome (told.Step g v false) [] None (in_progress x) x.volumes (followed (runs x) (course_stepped true x.clock x.course) x) new m)
-    → HasCome (told.Step g v false) [] None (in_progress st) (stepped_volumes false g st) (after_changes st (steps false (Some g) st)) new m
+    → ((x : State) → x ≡ step_made (Some g) v st → IsInOrder x → HasCome (told.Step g v false) [] None (in_progress x) x.volumes (followed (runs x) (course_stepped true x.clock x.course) x) new m)
+    → HasCome (told.Step g v false) [] None (in_progress st) (stepped_volumes false g v st) (after_changes st (steps false (Some g) v st)) new m
 step_goes st g v new m order comes =
-    subst (λ x. HasCome (told.Step g v false) [] None (in_progress st) (stepped_volumes false g st) x new m) (sym (steps_are false (Some g) st))
-    (subst (λ (x : State). HasCome (told.Step g v false) [] None (in_progress st) x.volumes (stepped_as false (Some g) st) new m) (sym (cuts_are (Some g) st))
+    subst (λ x. HasCome (told.Step g v false) [] None (in_progress st) (stepped_volumes false g v st) x new m) (sym (steps_are false (Some g) v st))
+    (subst (λ (x : State). HasCome (told.Step g v false) [] None (in_progress st) x.volumes (stepped_as false (Some g) v st) new m) (sym (made_are (Some g) v st))
     (step_made_goes st g v new m order comes))
 
-stepped_is : (mark : Mark) (st : State) → stepped mark st ≡ stepped_as (is_failed_step (is_flush (open_group (left_now st))) mark) (open_group (left_now st)) st
+stepped_is : (mark : Mark) (st : State) → stepped mark st ≡ stepped_as (is_failed_step (is_flush (open_group (left_now st))) mark) (open_group (left_now st)) (next_volume (left_now st)) st
 unfolding stepped
 stepped_is mark st = refl
 
@@ -124,23 +127,23 @@ allowed_if b fails h = grind arith
 
 pub step_happens : (s : Plan) (new : SessionsValue) (st : State) (g : Group) (v : Option ℕ) (fails : Bool) (m : SessionMove) → is_working (left_now st) ≡ true → open_group (left_now st) ≡ Some g
     → next_volume (left_now st) ≡ v
-    → (fails ≡ true → is_flush (Some g) ≡ true) → HasCome (told.Step g v fails) [] None (in_progress st) (stepped_volumes fails g st) (after_changes st (steps fails (Some g) st)) new m
+    → (fails ≡ true → is_flush (Some g) ≡ true) → HasCome (told.Step g v fails) [] None (in_progress st) (stepped_volumes fails g v st) (after_changes st (steps fails (Some g) v st)) new m
     → Happens s st Provider new m
 step_happens s new st g v fails m works at volume flushes came = record {
   told = told.Step g v fails;
   on = works;
   allowed = ap (λ (o : Option Group). flush_allows (is_flush o) (mark_if fails)) at ∙ allowed_if (is_flush (Some g)) fails flushes;
   reply = Stepped g v fails;
-  after = stepped_as fails (Some g) st;
+  after = stepped_as fails (Some g) v st;
   does =
       ap (λ (x : State). (step_reply (open_group (left_now st)) (next_volume (left_now st)) (mark_if fails), x)) (stepped_is (mark_if fails) st)
-      ∙ ap (λ (o : Option Group). (step_reply o (next_volume (left_now st)) (mark_if fails), stepped_as (is_failed_step (is_flush o) (mark_if fails)) o st)) at
-      ∙ ap (λ (o : Option ℕ). (step_reply (Some g) o (mark_if fails), stepped_as (is_failed_step (is_flush (Some g)) (mark_if fails)) (Some g) st)) volume
-      ∙ ap (λ (b : Bool). (Stepped g v b, stepped_as b (Some g) st)) (failed_if (is_flush (Some g)) fails flushes);
+      ∙ ap (λ (o : Option Group). (step_reply o (next_volume (left_now st)) (mark_if fails), stepped_as (is_failed_step (is_flush o) (mark_if fails)) o (next_volume (left_now st)) st)) at
+      ∙ ap (λ (o : Option ℕ). (step_reply (Some g) o (mark_if fails), stepped_as (is_failed_step (is_flush (Some g)) (mark_if fails)) (Some g) o st)) volume
+      ∙ ap (λ (b : Bool). (Stepped g v b, stepped_as b (Some g) v st)) (failed_if (is_flush (Some g)) fails flushes);
   fits = λ tells. refl;
   lists = λ listed rows e. tt;
   evicts = refl;
-  came = subst (λ x. HasCome (told.Step g v fails) [] None (in_progress st) (stepped_volumes fails g st) x new m) (steps_are fails (Some g) st) came;
+  came = subst (λ x. HasCome (told.Step g v fails) [] None (in_progress st) (stepped_volumes fails g v st) x new m) (steps_are fails (Some g) v st) came;
 }
 
 -- ## time goes by

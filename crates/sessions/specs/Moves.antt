@@ -4,7 +4,7 @@
 use Rattle.std.specs.Prelude.{ℕ, ◌≡◌, Bool, true, false, List, [], Option, Some, None, not, if◌then◌else◌}
 use Rattle.vss_model.specs.Words.{Add, All, AsyncPending, Clean, Component, Components, Course, Document, EndsAs, Fits, Go, Group, HasLists, Held, History, IsOutcome, Kind, Mode, Op, Order, Plan}
 use Rattle.vss_model.specs.Words.{Reply, Session, SessionCall, SetRow, Start, State, VssResult, WriterRow, after, check, document_text, enabled, ended_of, event_allows}
-use Rattle.vss_model.specs.Words.{after_changes, call_reply, cuts_at, fails, goes_on, in_progress, known_metas, leaves_all, left_now, lost_after, lost_order_if, mark_of, next_volume, open_group, order_now, passes, released, selected, session_calls, steps, Change}
+use Rattle.vss_model.specs.Words.{after_changes, call_reply, fails, goes_on, in_progress, known_metas, leaves_all, left_now, lost_after, lost_order_if, made_at, mark_of, next_volume, open_group, order_now, passes, released, selected, session_calls, steps, Change}
 use Rattle.vss_model.specs.Words.{told_act, volumes_of, writers_of}
 use Rattle.sessions.specs.Words.{Effects, Event, Provider, Tells, Told, begun_as, runs, works}
 use Rattle.scenario.specs.declared.op.Op.TheVariants.{Gather, Prepare, Snapshot, Complete}
@@ -22,12 +22,12 @@ abbrev pub images_after : SessionMove → List History → List History
 images_after m hs = without_images m.released (without_images (failed_set m.outcome.result m.outcome.set) hs)
 
 -- what a step of the provider in this group does itself, where no device fails it
-abbrev pub stepped_volumes : Bool → Group → State → List History
-stepped_volumes true g st = st.volumes
-stepped_volumes false g st = (after_changes st (cuts_at (Some g) st)).volumes
+abbrev pub stepped_volumes : Bool → Group → Option ℕ → State → List History
+stepped_volumes true g v st = st.volumes
+stepped_volumes false g v st = (after_changes st (made_at (Some g) v st)).volumes
 
 abbrev pub volumes_by_step : Told → State → List History
-volumes_by_step (told.Step g v fails) st = stepped_volumes fails g st
+volumes_by_step (told.Step g v fails) st = stepped_volumes fails g v st
 volumes_by_step _ st = st.volumes
 
 -- what an event does itself to the volumes: a step of the provider alone does something
@@ -150,12 +150,12 @@ pub record IsNextStep (x : SessionsValue) (g : Group) (v : Option ℕ) : Type 0 
 
 -- what a step of this group does beside its entry in the log was done
 abbrev pub HasCut : Group → SessionsValue → SessionsValue → Type 0
-HasCut g old new = (st : State) → IsInOrder st → Keeps old st → Keeps new (after_changes st (cuts_at (Some g) st))
+HasCut g old new = (st : State) (v : Option ℕ) → IsInOrder st → Keeps old st → Keeps new (after_changes st (made_at (Some g) v st))
 
 -- the provider made its step, or a device failed it
 abbrev pub HasStepped : Bool → Group → Option ℕ → SessionsValue → SessionsValue → SessionMove → Type 0
 HasStepped fails g v old new m = (st : State) → IsInOrder st → Keeps old st → open_group (left_now st) ≡ Some g
-    → HasCome (told.Step g v fails) [] None (in_progress st) (stepped_volumes fails g st) (after_changes st (steps fails (Some g) st)) new m
+    → HasCome (told.Step g v fails) [] None (in_progress st) (stepped_volumes fails g v st) (after_changes st (steps fails (Some g) v st)) new m
 
 -- ## time
 

@@ -153,8 +153,14 @@ cuts_in o st e h l t = grind (arith, common_steps, closed, cut_open, none_after)
 pub cuts : (s : Plan) (acts : List Act) → is_cut_group (open_group (left_now (state s acts))) ≡ true → CutsNow (state s acts)
 cuts s acts h = cuts_in (state s acts).course.agenda (state s acts) refl h (sound s acts) (tied s acts)
 
-tied_to : (a : Agenda) (k : Kind) (ms : List Member) (o : Option SetRow) (r : SetRow) → k ≡ Snapshot → o ≡ Some r → IsOf k a.volumes a.members ms o → (a.volumes ≡ r.volumes) × (a.members ≡ ms)
+pub tied_to : (a : Agenda) (k : Kind) (ms : List Member) (o : Option SetRow) (r : SetRow) → k ≡ Snapshot → o ≡ Some r → IsOf k a.volumes a.members ms o → (a.volumes ≡ r.volumes) × (a.members ≡ ms)
 tied_to a k ms o r e f h = grind arith
+
+-- a running snapshot's volumes are those of the set in progress
+pub tied_snapshot : (a : Agenda) (r : SetRow) (ms : List Member) → is_snapshot a.kind ≡ true → Tied (Some a) ms (Some r) → a.volumes ≡ r.volumes
+tied_snapshot a r ms e t = by_kind a.kind e t where
+  by_kind : (k : Kind) → is_snapshot k ≡ true → IsOf k a.volumes a.members ms (Some r) → a.volumes ≡ r.volumes
+  by_kind k e t = grind arith
 
 pub held_at_cut : (s : Plan) (acts : List Act) (r : SetRow) (v : ℕ) → is_cut_group (open_group (left_now (state s acts))) ≡ true → in_progress (state s acts) ≡ Some r → is_among v r.volumes ≡ true → is_held (state s acts) v ≡ true
 held_at_cut s acts r v h e f =

@@ -17,7 +17,7 @@ use Rattle.scenario.specs.declared.line.Line.{Line as Does}
 use Rattle.scenario.specs.declared.line.Line.TheVariants.{Reverts}
 use Rattle.scenario.specs.declared.span.Span.{Span}
 use Rattle.vss_model.specs.declared.event.Event.TheVariants.{Answer as AnswerEvent}
-use Rattle.vss_model.proofs.StateForm.{failed, Replied, refused, write, reverted_as, image_block, image_blocks, properties, delete_set, delete_kept, delete_image, revert_to, revert, disable, gather, prepare, snapshot, complete, start_set, change_set, end_session, component_in, add, await_last, line_in, session_line, judged, answered, stepped, ticked, called, does, line, happens, add_to}
+use Rattle.vss_model.proofs.StateForm.{failed, Replied, write, reverted_as, image_block, image_blocks, properties, delete_set, delete_kept, delete_image, revert_to, revert, disable, gather, prepare, snapshot, complete, start_set, change_set, end_session, component_in, add, await_last, line_in, session_line, judged, answered, stepped, ticked, called, does, line, happens, add_to}
 use Rattle.vss_model.specs.Lines.{reply_to}
 use Rattle.vss_model.proofs.GoingOn.{Goes, other_goes}
 

@@ -1,5 +1,5 @@
 -- Where an act gives no cause, no set fails in it.
-use Rattle.std.proofs.Common.{◌≡◌, ℕ, ◌+◌, List, [], ◌∷◌, ◌++◌, Option, Some, None, refl, Bool, true, false, sym, subst, arith}
+use Rattle.std.proofs.Common.{◌≡◌, ℕ, List, [], ◌∷◌, ◌++◌, Option, Some, None, refl, Bool, true, false, sym, subst, arith}
 use Rattle.std.specs.Prelude.{◌&&◌, not}
 use Rattle.vss_model.proofs.Terms.{nat_tests, common_steps, Order, SetOutcome, VssResult, Said, is_ok, Mark, Write, Group, Limit, Kind, Member, left}
 use Rattle.vss_model.proofs.Terms.{open_order, open_group, order_now, spent_of, Course, posted, settled, outcome_after, begun, is_decisive, told, decided}
@@ -103,8 +103,8 @@ module _ (n : ℕ) where
   unfolding answered
   live_answers w said st e h = live_followed (runs st) _ st e h
 
-  live_made : (g : Option Group) (st : State) → IsLive n st → IsLive n (step_made g st)
-  live_made g st h = grind (arith, common_steps, live-map, same_changed)
+  live_made : (g : Option Group) (v : Option ℕ) (st : State) → IsLive n st → IsLive n (step_made g v st)
+  live_made g v st h = grind (arith, common_steps, live-map, same_changed)
 
   live_steps : (mark : Mark) (st : State) → is_failed_step (is_flush (open_group (left_now st))) mark ≡ false → Fails st.course ≡ false → IsLive n st → IsLive n (stepped mark st)
   unfolding stepped

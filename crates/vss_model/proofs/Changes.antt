@@ -4,26 +4,29 @@ use Rattle.std.proofs.Common.{◌≡◌, ◌∙◌, ℕ, List, [], ◌∷◌, �
 use Rattle.std.specs.Prelude.{◌⊎◌, ◌&&◌, not, if◌then◌else◌, option_map, is_some, nat_le}
 use Rattle.vss_model.proofs.Terms.{nat_tests, fold-append, common_steps, Context, Backup, AppRollback, NasRollback, Order, SetOutcome, VssResult}
 use Rattle.vss_model.proofs.Terms.{AsyncCancelled, AsyncPending, BadState, ObjectAlreadyExists, MaximumNumberOfVolumesReached, MaximumNumberOfSnapshotsReached}
-use Rattle.vss_model.proofs.Terms.{payload_bytes, Mark, Clean, FaultAfter, Write, Said, Answer, said_of, Group, Cut, Gather, Prepare, Snapshot, Complete}
-use Rattle.vss_model.proofs.Terms.{Agenda, left, open_group, next_volume, is_working, IsKeptFrom, from_answered, from_stepped, from_timed, from_begun, Course}
-use Rattle.vss_model.proofs.Terms.{posted, told, worked, answered as course_answered, stepped as course_stepped, timed, gathered, prepared, snapshot_begun}
-use Rattle.vss_model.proofs.Terms.{completing, failed as course_failed, released, Pair, Naming, Names as NamesNow, naming, takers, SessionCall, Mode, Session}
-use Rattle.vss_model.proofs.Terms.{makes_set, opened, started, agenda_ended, set_failed, Op, Target, target_in, line_of, Plan, token, Event, Line, Provider}
-use Rattle.vss_model.proofs.Terms.{Idle, Reply, Coded, is_pending_code, leaves_all, State, SetRow, Kept, in_progress, history_of, left_now, is_held, kept_image}
-use Rattle.vss_model.proofs.Terms.{Ending, NothingEnds, AgendaEnds, SetFails, ending, runs, is_in_set, is_disabled, known_metas, selected, new_number, new_set}
-use Rattle.vss_model.proofs.Terms.{add_refusal, most_images, most_volumes, has_no_volume, volumes_of, naming_reply, component_reply, fine_unless, add_reply}
-use Rattle.vss_model.proofs.Terms.{await_reply, session_reply, first_reply, call_reply, is_flush, is_failed_step, row_cut, ticks_of, Act, enabled, reply}
-use Rattle.vss_model.proofs.Terms.{changes, after, order_of_writer, idle_now, answer_reply, step_reply, is_provider, is_cut_group, LetsGo, Change, Passes}
-use Rattle.vss_model.proofs.Terms.{SessionIs, StartsSet, AddsVolume, IsCutAt, CourseIs, Settles, Writes, Cuts, Reverts, RevertsPart, DropsSet, Drops, apply}
-use Rattle.vss_model.proofs.Terms.{drops, ends, goes_on, fails, makes_room, puts, reverts, deletes, names, adds, releases, closes, calls, session_calls}
-use Rattle.vss_model.proofs.Terms.{opens_as, passes, cuts, steps, next_step, answers, does_change, event_changes, after_changes, begins, cuts_at}
+use Rattle.vss_model.proofs.Terms.{payload_bytes, Mark, Clean, FaultAfter, Write, Said, Answer, said_of, Group, Cut, Commit, Gather, Prepare, Snapshot}
+use Rattle.vss_model.proofs.Terms.{Complete, Agenda, left, open_group, next_volume, is_working, IsKeptFrom, from_answered, from_stepped, from_timed, from_begun}
+use Rattle.vss_model.proofs.Terms.{Course, posted, told, worked, answered as course_answered, stepped as course_stepped, timed, gathered, prepared}
+use Rattle.vss_model.proofs.Terms.{snapshot_begun, completing, failed as course_failed, released, Pair, Naming, Names as NamesNow, naming, takers, SessionCall}
+use Rattle.vss_model.proofs.Terms.{Mode, Session, makes_set, opened, started, agenda_ended, set_failed, Op, Target, target_in, line_of, Plan, token, Event}
+use Rattle.vss_model.proofs.Terms.{Line, Provider, Idle, Reply, Coded, is_pending_code, leaves_all, State, SetRow, Kept, in_progress, history_of, left_now}
+use Rattle.vss_model.proofs.Terms.{is_held, kept_image, Ending, NothingEnds, AgendaEnds, SetFails, ending, runs, is_in_set, is_disabled, known_metas, selected}
+use Rattle.vss_model.proofs.Terms.{new_number, new_set, add_refusal, most_images, most_volumes, has_no_volume, volumes_of, naming_reply, component_reply}
+use Rattle.vss_model.proofs.Terms.{fine_unless, add_reply, await_reply, session_reply, first_reply, call_reply, is_flush, is_failed_step, row_cut, ticks_of}
+use Rattle.vss_model.proofs.Terms.{Act, enabled, reply, changes, after, order_of_writer, idle_now, answer_reply, step_reply, is_provider, is_cut_group, LetsGo}
+use Rattle.vss_model.proofs.Terms.{Change, Passes, SessionIs, StartsSet, AddsVolume, IsCutAt, CourseIs, Settles, Writes, Reverts, RevertsPart, DropsSet, Drops}
+use Rattle.vss_model.proofs.Terms.{apply, drops, ends, goes_on, fails, makes_room, puts, reverts, deletes, names, adds, releases, closes, calls, session_calls}
+use Rattle.vss_model.proofs.Terms.{opens_as, passes, cuts, makes, steps, next_step, answers, does_change, event_changes, after_changes, begins, made_at}
 use Rattle.block_data.specs.declared.payload.Payload.{Payload}
 use Rattle.requestor.specs.declared.session_call.SessionCall.TheVariants as call
 use Rattle.scenario.specs.declared.line.Line.{Line as Does}
 use Rattle.scenario.specs.declared.line.Line.TheVariants as does
 use Rattle.scenario.specs.declared.op.Op.TheVariants as op
 use Rattle.vss_model.specs.declared.event.Event.TheVariants.{Answer as AnswerEvent}
-use Rattle.vss_model.proofs.StateForm.{concluded, followed, failed_in, failed, Replied, refused, write, reverted_as, pending, closed, cut_set, stepped_as, stepped, later, ticked, answered, does as line_does, happens, after_if, add, add_to, component_in, line_in, line_without_session, named_as, session_line, step_made}
+use Rattle.vss_model.proofs.StateForm.{concluded, followed, failed_in, failed, Replied, refused, write, reverted_as, pending, closed, cut_set, image_made}
+use Rattle.vss_model.proofs.StateForm.{stepped_as, stepped, later, ticked, answered, does as line_does, happens, after_if, add, add_to, component_in, line_in}
+use Rattle.vss_model.proofs.StateForm.{line_without_session, named_as, session_line, step_made}
+use Rattle.vss_model.specs.Changes as change
 use Rattle.vss_model.specs.Changes.{Names}
 use Rattle.vss_model.proofs.ByEvent.{Covers, Next, covered, by_if, some_same, may_change, no_set_of, reply_is, told_call}
 use Rattle.vss_model.proofs.Rows.{number-cut}
@@ -49,13 +52,20 @@ pub record IsAdd (st x : State) (n v : ℕ) : Type 0 where
   pub allowed : add_refusal v row st ≡ None
   pub first : x ≡ st
 
-pub record IsCut (e : Event) (st x : State) (n : ℕ) : Type 0 where
+pub record IsCut (e : Event) (st : State) (n : ℕ) : Type 0 where
   pub row : SetRow
   pub found : in_progress st ≡ Some row
   pub number : n ≡ row.number
   pub provider : is_provider e ≡ true
   pub group : is_cut_group (open_group (left_now st)) ≡ true
-  pub volumes : x.volumes ≡ st.volumes
+
+pub record IsMade (e : Event) (st : State) (n v : ℕ) : Type 0 where
+  pub row : SetRow
+  pub found : in_progress st ≡ Some row
+  pub number : n ≡ row.number
+  pub provider : is_provider e ≡ true
+  pub group : open_group (left_now st) ≡ Some Commit
+  pub volume : next_volume (left_now st) ≡ Some v
 
 pub record IsWrite (e : Event) (m : Mark) (st : State) (v : ℕ) (w : Write) : Type 0 where
   pub lane : ℕ
@@ -123,20 +133,21 @@ IsDue st c (Fails why) = (r : SetRow) × ((in_progress st ≡ Some r) × (c ≡ 
 IsDue st c Releases = (c ≡ st.course) ⊎ (c ≡ course_failed AsyncCancelled st.course)
 
 -- and what of the other parts of the state
-abbrev pub Stands : State → State → CourseCall → Type 0
-Stands st x Gathers = x ≡ st
-Stands st x (Prepares q) = x ≡ st
-Stands st x Snapshots = (x ≡ st) × (has_no_volume (in_progress st) ≡ false)
-Stands st x Completes = x ≡ st
-Stands st x (Disables w) = x ≡ st
-Stands st x Releases = (in_progress x ≡ None) × (x.explicit ≡ [])
-Stands st x _ = Unit {0}
+abbrev pub Stands : Event → State → State → CourseCall → Type 0
+Stands e st x (Steps ok) = is_provider e ≡ true
+Stands e st x Gathers = x ≡ st
+Stands e st x (Prepares q) = x ≡ st
+Stands e st x Snapshots = (x ≡ st) × (has_no_volume (in_progress st) ≡ false)
+Stands e st x Completes = x ≡ st
+Stands e st x (Disables w) = x ≡ st
+Stands e st x Releases = (in_progress x ≡ None) × (x.explicit ≡ [])
+Stands e st x _ = Unit {0}
 
-pub record IsCalled (s : Plan) (st x : State) (c : Course) : Type 0 where
+pub record IsCalled (s : Plan) (e : Event) (st x : State) (c : Course) : Type 0 where
   pub call : CourseCall
   pub is : c ≡ called s st call x.course
   pub due : IsDue st x.course call
-  pub stands : Stands st x call
+  pub stands : Stands e st x call
 
 -- what becomes of the session
 pub data SessionStep : Type 0 where
@@ -177,12 +188,12 @@ abbrev pub Comes : Plan → Event → Mark → State → State → Change → Ty
 Comes s e m st x (Passes n) = ticks_of st e ≡ Some n
 Comes s e m st x (StartsSet r) = IsStart st x r
 Comes s e m st x (AddsVolume n v) = IsAdd st x n v
-Comes s e m st x (CourseIs c) = IsCalled s st x c
+Comes s e m st x (CourseIs c) = IsCalled s e st x c
 Comes s e m st x (SessionIs q) = IsSession e st x q
 Comes s e m st x (Names pairs) = (pairs ≡ []) ⊎ IsNamed s st x pairs
 Comes s e m st x (Settles o) = (x.course.agenda ≡ None) × (o ≡ x.course.outcome)
-Comes s e m st x (IsCutAt n now) = IsCut e st x n × (x ≡ st) × (now ≡ st.clock)
-Comes s e m st x (Cuts n vs) = IsCut e st x n × (vs ≡ volumes_of (in_progress st))
+Comes s e m st x (IsCutAt n now) = IsCut e st n × (x ≡ st) × (now ≡ st.clock)
+Comes s e m st x (change.Makes n v) = IsMade e st n v × (x ≡ st)
 Comes s e m st x (Writes v w) = IsWrite e m st v w
 Comes s e m st x (Reverts v n p) = IsRevert e st v n p × (m ≡ Clean) × (x ≡ st)
 Comes s e m st x (RevertsPart v blocks n p k) = IsRevert e st v n p × (m ≡ FaultAfter k) × (x ≡ st)
@@ -274,22 +285,25 @@ passes_are n st = goes_on_is (runs st) (timed (st.clock + n) st.course) (later n
 pub ends_session : (s : Plan) (q : Session) (st : State) → after_changes st (calls s op.End q st) ≡ closed q (failed AsyncCancelled st)
 ends_session s q st = grind (arith, fold-append, closes_is, fails_now)
 
--- the Cut step
+-- what a step makes
 drops_cut : (n now : ℕ) (o : Option SetRow) → drops (option_map (row_cut n now) o) ≡ drops o
 drops_cut n now o = grind (arith, number-cut)
 
-pub cuts_are : (g : Option Group) (st : State) → after_changes st (cuts_at g st) ≡ step_made g st
-cuts_are g st = grind arith
+pub made_are : (g : Option Group) (v : Option ℕ) (st : State) → after_changes st (made_at g v st) ≡ step_made g v st
+made_are g v st = grind arith
 
 as_before_cut : (o : Option SetRow) (st : State) → IsAsBefore (cut_set o st) st
 as_before_cut o st = grind (arith, common_steps, as_before, find-map, drops_cut)
 
-pub steps_are : (fault : Bool) (g : Option Group) (st : State) → after_changes st (steps fault g st) ≡ stepped_as fault g st
-steps_are fault g st = grind (arith, common_steps, goes_on_own, fold-append, cuts_are, goes_on_is, as_before_cut, as_before)
+as_before_made : (o : Option SetRow) (v : Option ℕ) (st : State) → IsAsBefore (image_made o v st) st
+as_before_made o v st = grind arith
+
+pub steps_are : (fault : Bool) (g : Option Group) (v : Option ℕ) (st : State) → after_changes st (steps fault g v st) ≡ stepped_as fault g v st
+steps_are fault g v st = grind (arith, common_steps, goes_on_own, fold-append, made_are, goes_on_is, as_before_cut, as_before_made, as_before)
 
 pub next_is : (mark : Mark) (st : State) → after_changes st (next_step mark st) ≡ stepped mark st
 unfolding stepped
-next_is mark st = steps_are (is_failed_step (is_flush (open_group (left_now st))) mark) (open_group (left_now st)) st
+next_is mark st = steps_are (is_failed_step (is_flush (open_group (left_now st))) mark) (open_group (left_now st)) (next_volume (left_now st)) st
 
 module _ (s : Plan) (e : Event) (m : Mark) (st : State) where
   come_ends : (g : Ending) (x y : State) → x.session ≡ y.session → EndsNone g x.course.agenda → Come s e m st x (ends g x.course.outcome y)
@@ -301,7 +315,7 @@ module _ (s : Plan) (e : Event) (m : Mark) (st : State) where
         by_set None z = tt
         by_set (Some r) z = (tt, tt)
 
-  come_on : (ran : Bool) (c : Course) (x y : State) → x.session ≡ y.session → Rests y.course c → IsCalled s st x c → Come s e m st x (goes_on ran c y)
+  come_on : (ran : Bool) (c : Course) (x y : State) → x.session ≡ y.session → Rests y.course c → IsCalled s e st x c → Come s e m st x (goes_on ran c y)
   come_on ran c x y same h
       i = (i, come_ends (ending y.course.outcome c.outcome ran c.agenda) (record x { course = c }) y same (ends_none y.course.outcome c.outcome ran c.agenda h))
 
@@ -353,7 +367,7 @@ module _ (s : Plan) (e : Event) (m : Mark) (st : State) where
   makes_none : Makes st []
   makes_none = record { is = refl; come = tt }
 
-  makes_on : (ran : Bool) (c : CourseCall) → IsDue st st.course c → Stands st st c
+  makes_on : (ran : Bool) (c : CourseCall) → IsDue st st.course c → Stands e st st c
       → Makes (followed ran (called s st c st.course) st) (goes_on ran (called s st c st.course) st)
   makes_on ran c i k = grind (arith, goes_on_own, come_on, rests_called)
 
@@ -388,38 +402,51 @@ module _ (s : Plan) (e : Event) (m : Mark) (st : State) where
   makes_revert : (lane n v : ℕ) (k : Kept) → e ≡ Line lane (op.Revert n v) → kept_image st n v ≡ Some k → is_in_set v (in_progress st) ≡ false → Makes (reverted_as s v k m st).1 (reverts s v (Some k) m)
   makes_revert lane n v k f g h = grind (arith, common_steps, makes_none)
 
-  -- the Cut step
+  -- what a step makes
   abbrev next_of : Bool → Course
   next_of ok = called s st (Steps ok) st.course
 
+  come_step : (x : State) → is_working (left_now st) ≡ true → is_provider e ≡ true → x.session ≡ st.session → x.course ≡ st.course → Come s e m st x (goes_on (runs st) (next_of true) st)
+  come_step x w p f g =
+      come_on (runs st) (next_of true) x st f (rests_called s st (Steps true) st.course (w, refl))
+      (record { call = Steps true; is = ap (called s st (Steps true)) (sym g); due = (w, g); stands = p })
+
   pub makes_cut : (r : SetRow) → is_working (left_now st) ≡ true → in_progress st ≡ Some r → is_provider e ≡ true
       → is_cut_group (open_group (left_now st)) ≡ true
-      → Makes (followed (runs st) (next_of true) (cut_set (Some r) st)) (IsCutAt r.number st.clock ∷ Cuts r.number r.volumes ∷ goes_on (runs st) (next_of true) st)
+      → Makes (followed (runs st) (next_of true) (cut_set (Some r) st)) (IsCutAt r.number st.clock ∷ goes_on (runs st) (next_of true) st)
   makes_cut r w f g h =
       let c = next_of true in
-      let known : (x : State) → x.volumes ≡ st.volumes → IsCut e st x r.number = λ x i. record { row = r; found = f; number = refl; provider = g; group = h; volumes = i } in
       let x = cut_set (Some r) st in
       record {
         is = sym (goes_on_is (runs st) c x st (as_before_cut (Some r) st));
-        come = (
-          (known st refl, refl, refl),
-          (
-            (known (apply st (IsCutAt r.number st.clock)) refl, sym (ap volumes_of f)),
-            come_on (runs st) c x st refl
-                (rests_called s st (Steps true) st.course (w, refl)) (record { call = Steps true; is = refl; due = (w, refl); stands = tt }),
-          ),
-        );
+        come = ((record { row = r; found = f; number = refl; provider = g; group = h }, refl, refl), come_step x w g refl refl);
       }
 
   makes_cut_in : (o : Option SetRow) → is_working (left_now st) ≡ true → in_progress st ≡ o → is_provider e ≡ true → is_cut_group (open_group (left_now st)) ≡ true
       → Makes (followed (runs st) (next_of true) (cut_set o st)) (cuts o st.clock ++ goes_on (runs st) (next_of true) st)
-  makes_cut_in None w f g h = makes_on (runs st) (Steps true) (w, refl) tt
+  makes_cut_in None w f g h = makes_on (runs st) (Steps true) (w, refl) g
   makes_cut_in (Some r) w f g h = makes_cut r w f g h
 
-  makes_steps : (b : Bool) (g : Option Group) → is_working (left_now st) ≡ true → is_provider e ≡ true → open_group (left_now st) ≡ g → Makes (stepped_as b g st) (steps b g st)
-  makes_steps true g w f h = makes_on (runs st) (Steps false) (w, refl) tt
+  pub makes_image : (r : SetRow) (v : ℕ) → is_working (left_now st) ≡ true → in_progress st ≡ Some r → is_provider e ≡ true → open_group (left_now st) ≡ Some Commit
+      → next_volume (left_now st) ≡ Some v → Makes (followed (runs st) (next_of true) (image_made (Some r) (Some v) st)) (change.Makes r.number v ∷ goes_on (runs st) (next_of true) st)
+  makes_image r v w f g h i =
+      let x = image_made (Some r) (Some v) st in
+      record {
+        is = sym (goes_on_is (runs st) (next_of true) x st (as_before_made (Some r) (Some v) st));
+        come = ((record { row = r; found = f; number = refl; provider = g; group = h; volume = i }, refl), come_step x w g refl refl);
+      }
+
+  makes_image_in : (o : Option SetRow) (v : Option ℕ) → is_working (left_now st) ≡ true → in_progress st ≡ o → is_provider e ≡ true → open_group (left_now st) ≡ Some Commit
+      → next_volume (left_now st) ≡ v → Makes (followed (runs st) (next_of true) (image_made o v st)) (makes o v ++ goes_on (runs st) (next_of true) st)
+  makes_image_in (Some r) (Some v) w f g h i = makes_image r v w f g h i
+  makes_image_in _ _ w f g h i = makes_on (runs st) (Steps true) (w, refl) g
+
+  makes_steps : (b : Bool) (g : Option Group) → is_working (left_now st) ≡ true → is_provider e ≡ true → open_group (left_now st) ≡ g
+      → Makes (stepped_as b g (next_volume (left_now st)) st) (steps b g (next_volume (left_now st)) st)
+  makes_steps true g w f h = makes_on (runs st) (Steps false) (w, refl) f
   makes_steps false (Some Cut) w f h = makes_cut_in (in_progress st) w refl f (ap is_cut_group h)
-  makes_steps false _ w f h = makes_on (runs st) (Steps true) (w, refl) tt
+  makes_steps false (Some Commit) w f h = makes_image_in (in_progress st) (next_volume (left_now st)) w refl f h refl
+  makes_steps false _ w f h = makes_on (runs st) (Steps true) (w, refl) f
 
   makes_stepped : is_working (left_now st) ≡ true → is_provider e ≡ true → Makes (stepped m st) (next_step m st)
   unfolding stepped

@@ -1,26 +1,28 @@
 -- What the images of a volume show: each a beginning of its effective writes, namely those at its set's cut.
-use Rattle.std.proofs.Common.{◌≡◌, ℕ, ◌+◌, ◌-◌, ◌==◌, ◌<◌, ◌≤◌, zero, suc, List, [], ◌∷◌, ◌++◌, Option, Some, None, refl, Bool, true, false, map, filter, length, take, arith}
-use Rattle.std.specs.Prelude.{not, if◌then◌else◌, nat_lt, slice_get}
-use Rattle.vss_model.proofs.Terms.{append_assoc, take-append-add, eqb-true, ltb-false, ltb-true, common_steps, Write, Image, History, point_in, up_to_set}
-use Rattle.vss_model.proofs.Terms.{after_set, dropped, written, reverted, reverted_in_part, Placed, gone_up_to, change_at, history_in}
+use Rattle.std.proofs.Common.{◌≡◌, ℕ, ◌-◌, ◌==◌, ◌<◌, ◌≤◌, List, [], ◌∷◌, ◌++◌, Option, Some, None, refl, Bool, true, false, filter, length, take, subst}
+use Rattle.std.proofs.Common.{inl, inr, arith}
+use Rattle.std.specs.Prelude.{◌⊎◌, is_some, not, if◌then◌else◌, nat_lt}
+use Rattle.vss_model.proofs.Terms.{append_assoc, take-append-add, cases_lt, eqb-true, common_steps, Write, Image, History, point_in, up_to_set, dropped}
+use Rattle.vss_model.proofs.Terms.{written, reverted, reverted_in_part, State, in_progress, history_of, has_image, is_in_set}
 use Rattle.write_history.specs.History.{cut}
 use Rattle.set_agenda.proofs.Closings.{unless}
+use Rattle.vss_model.proofs.Volumes.{at}
 
--- the volumes as they were at the cut of each set that was cut
+-- the state at the cut of each set that was cut
 abbrev pub Known : Type 0
-Known = ℕ → Option (List History)
+Known = ℕ → Option State
 
-abbrev pub writes_at : List History → ℕ → List Write
-writes_at hs v = (history_in (slice_get hs v)).writes
+abbrev pub writes_at : State → ℕ → List Write
+writes_at y v = (history_of y v).writes
 
 pub record Begins (first ws : List Write) : Type 0 where
   pub rest : List Write
   pub is : ws ≡ first ++ rest
 
--- an image of volume v: its set was cut, and the writes begin with those at the cut, as many as its point says
-abbrev pub ShownIn : Option (List History) → ℕ → ℕ → List Write → Type 0
+-- an image of volume v: its set was cut, with the volume, and the writes begin with those at the cut, as many as its point says
+abbrev pub ShownIn : Option State → ℕ → ℕ → List Write → Type 0
 ShownIn None v point ws = ⊥
-ShownIn (Some hs) v point ws = (length (writes_at hs v) ≡ point) × Begins (writes_at hs v) ws
+ShownIn (Some y) v point ws = (is_in_set v (in_progress y) ≡ true) × (length (writes_at y v) ≡ point) × Begins (writes_at y v) ws
 
 -- the images after one have later sets, and points that are no less
 abbrev pub Above : Image → List Image → Type 0
@@ -34,9 +36,8 @@ Shown k v ws (i ∷ images) = ShownIn (k i.set) v i.point ws × Above i images �
 abbrev pub IsShown : Known → ℕ → History → Type 0
 IsShown k v h = Shown k v h.writes h.images
 
-abbrev pub AllShown : Known → ℕ → List History → Type 0
-AllShown k v [] = Unit {0}
-AllShown k v (h ∷ hs) = IsShown k v h × AllShown k (v + 1) hs
+abbrev pub AllShown : Known → List History → Type 0
+AllShown k hs = (v : ℕ) → IsShown k v (at hs v)
 
 -- ## fewer images
 
@@ -56,7 +57,7 @@ shown-filter test k v ws (i ∷ images) h = shown_if (test i) k v ws i (filter t
 
 -- ## more writes
 
-in-append : (o : Option (List History)) (v point : ℕ) (ws more : List Write) → ShownIn o v point ws → ShownIn o v point (ws ++ more)
+in-append : (o : Option State) (v point : ℕ) (ws more : List Write) → ShownIn o v point ws → ShownIn o v point (ws ++ more)
 in-append o v point ws more h = grind (arith, common_steps, append_assoc)
 
 pub shown-writes : (k : Known) (v : ℕ) (ws more : List Write) (images : List Image) → Shown k v ws images → Shown k v (ws ++ more) images
@@ -101,25 +102,7 @@ shown-reverted k v n p h e shown = back k v h.writes n p h.images shown (within 
 pub shown-reverted_in_part : (blocks : ℕ) (k : Known) (v n p m : ℕ) (h : History) → IsShown k v h → IsShown k v (reverted_in_part blocks n p m h)
 shown-reverted_in_part blocks k v n p m h shown = shown-filter (λ i. not (nat_lt n i.set)) k v _ h.images (shown-writes k v h.writes _ h.images shown)
 
--- ## all volumes
-
-pub all-map : (k : Known) (f : History → History) → ((v : ℕ) (h : History) → IsShown k v h → IsShown k v (f h)) → (v : ℕ) (hs : List History) → AllShown k v hs → AllShown k v (map f hs)
-all-map k f keeps v [] h = tt
-all-map k f keeps v (x ∷ hs) h = (keeps v x h.0, all-map k f keeps (v + 1) hs h.1)
-
--- at the volume at a place
-pub all-change_at : (k : Known) (f : History → History) (at : ℕ) (v : ℕ) (hs : List History) → ((u : ℕ) (h : History) → slice_get hs at ≡ Some h → IsShown k u h → IsShown k u (f h)) → AllShown k v hs → AllShown k v (change_at at f hs)
-all-change_at k f at v [] keeps h = tt
-all-change_at k f zero v (x ∷ hs) keeps h = (keeps v x refl h.0, h.1)
-all-change_at k f (suc at) v (x ∷ hs) keeps h = (h.0, all-change_at k f at (v + 1) hs (λ u y e g. keeps u y e g) h.1)
-
-gone_if : (b : Bool) (k : Known) (v m : ℕ) (h : History) → IsShown k v h → IsShown k v (if b then record { writes = h.writes; images = after_set m h.images } else h)
-gone_if b k v m h shown = grind (arith, shown-filter)
-
-pub all-gone : (k : Known) (m : ℕ) (ps : List Placed) (v : ℕ) (hs : List History) → AllShown k v hs → AllShown k v (gone_up_to m ps hs)
-all-gone k m [] v hs h = h
-all-gone k m (p ∷ ps) v [] h = tt
-all-gone k m (p ∷ ps) v (x ∷ hs) h = (gone_if p.within k v m x h.0, all-gone k m ps (v + 1) hs h.1)
+-- ## fewer images, more writes, of a volume
 
 pub shown-dropped : (n : ℕ) (k : Known) (v : ℕ) (h : History) → IsShown k v h → IsShown k v (dropped n h)
 shown-dropped n k v h shown = shown-filter (λ i. not (i.set == n)) k v h.writes h.images shown
@@ -129,14 +112,9 @@ shown-written w k v h shown = shown-writes k v h.writes (w ∷ []) h.images show
 
 -- ## the same that is known
 
-shown_along : (k l : Known) (v : ℕ) (ws : List Write) (images : List Image) → ((n : ℕ) (hs : List History) → k n ≡ Some hs → l n ≡ Some hs) → Shown k v ws images → Shown l v ws images
+pub shown_along : (k l : Known) (v : ℕ) (ws : List Write) (images : List Image) → ((n : ℕ) (y : State) → k n ≡ Some y → l n ≡ Some y) → Shown k v ws images → Shown l v ws images
 shown_along k l v ws [] same h = tt
 shown_along k l v ws (i ∷ images) same h = let ih = shown_along k l v ws images same h.2 in grind (arith, common_steps)
-
--- more may be known
-pub all_along : (k l : Known) → ((n : ℕ) (hs : List History) → k n ≡ Some hs → l n ≡ Some hs) → (v : ℕ) (hs : List History) → AllShown k v hs → AllShown l v hs
-all_along k l same v [] h = tt
-all_along k l same v (x ∷ hs) h = (shown_along k l v x.writes x.images same h.0, all_along k l same (v + 1) hs h.1)
 
 -- ## a new image
 
@@ -154,22 +132,33 @@ shown-append k v ws [] j h b e = (e, tt, tt)
 shown-append k v ws (i ∷ images) j h b e = (h.0, above-append i j images h.1 b.0 b.1, shown-append k v ws images j h.2 b.2 e)
 
 -- no point is past the end
-pub no_greater : (o : Option (List History)) (v point : ℕ) (ws : List Write) → ShownIn o v point ws → point ≤ length ws
+pub no_greater : (o : Option State) (v point : ℕ) (ws : List Write) → ShownIn o v point ws → point ≤ length ws
 no_greater o v point ws g = grind (arith, common_steps)
 
--- what is not known from n on was cut before n
-below : (k : Known) (v : ℕ) (ws : List Write) (n : ℕ) (images : List Image) → ((m : ℕ) → n ≤ m → k m ≡ None) → Shown k v ws images → Below images n (length ws)
-below k v ws n [] none h = tt
-below k v ws n (i ∷ images) none h = grind (arith, common_steps, no_greater, ltb-true, ltb-false, below k v ws n images none h.2)
+is_below : (k : Known) (v p n m : ℕ) (ws : List Write) → ((l : ℕ) → n < l → k l ≡ None) → (m == n) ≡ false → ShownIn (k m) v p ws → m < n
+is_below k v p n m ws none other h = by_cases (cases_lt n m) where
+  less : (a b : ℕ) → a ≤ b → (a == b) ≡ false → a < b
+  less a b l e = grind arith
+
+  by_cases : (n < m) ⊎ (m ≤ n) → m < n
+  by_cases (inl l) = absurd (subst (λ o. ShownIn o v p ws) (none m l) h)
+  by_cases (inr l) = less m n l other
+
+-- these are of sets before n, which has none here
+below : (k : Known) (v : ℕ) (ws : List Write) (n : ℕ) (images : List Image) → ((m : ℕ) → n < m → k m ≡ None) → is_some (point_in n images) ≡ false → Shown k v ws images
+    → Below images n (length ws)
+below k v ws n [] none unset h = tt
+below k v ws n (i ∷ images) none unset h =
+    let parts = by_head (i.set == n) unset in (is_below k v i.point n i.set ws none parts.0 h.0, no_greater (k i.set) v i.point ws h.0, below k v ws n images none parts.1 h.2) where
+      by_head : (b : Bool) → is_some (if b then Some i.point else point_in n images) ≡ false → (b ≡ false) × (is_some (point_in n images) ≡ false)
+      by_head b e = grind arith
 
 pub append_none : (ws : List Write) → ws ≡ ws ++ []
 append_none ws = grind (arith, common_steps)
 
-pub shown-cut : (k : Known) (v n : ℕ) (hs : List History) (h : History) → k n ≡ Some hs → writes_at hs v ≡ h.writes → Below h.images n (length h.writes) → IsShown k v h → IsShown k v (cut n h)
-shown-cut k v n hs h e f b shown = grind (arith, common_steps, shown-append, append_none)
-
-pub below-known : (k : Known) (v n : ℕ) (h : History) → ((m : ℕ) → n ≤ m → k m ≡ None) → IsShown k v h → Below h.images n (length h.writes)
-below-known k v n h none shown = below k v h.writes n h.images none shown
+pub shown-cut : (k : Known) (v n : ℕ) (y : State) (h : History) → k n ≡ Some y → is_in_set v (in_progress y) ≡ true → h.writes ≡ writes_at y v
+    → ((m : ℕ) → n < m → k m ≡ None) → has_image n h ≡ false → IsShown k v h → IsShown k v (cut n h)
+shown-cut k v n y h e among f none unset shown = grind (arith, common_steps, shown-append, append_none, below)
 
 -- ## the image of a set
 
@@ -178,11 +167,6 @@ point_if : (b : Bool) (k : Known) (v n p : ℕ) (ws : List Write) (i : Image) (i
     → ShownIn (k n) v p ws
 point_if b k v n p ws i images e f h ih = grind arith
 
-point_shown : (k : Known) (v n p : ℕ) (ws : List Write) (images : List Image) → point_in n images ≡ Some p → Shown k v ws images → ShownIn (k n) v p ws
+pub point_shown : (k : Known) (v n p : ℕ) (ws : List Write) (images : List Image) → point_in n images ≡ Some p → Shown k v ws images → ShownIn (k n) v p ws
 point_shown k v n p ws [] e h = absurd cc
 point_shown k v n p ws (i ∷ images) e h = point_if (i.set == n) k v n p ws i images refl e h.0 (λ f. point_shown k v n p ws images f h.2)
-
-pub shown_at : (k : Known) (base v u n p : ℕ) (hs : List History) → u ≡ base + v → AllShown k base hs → point_in n (history_in (slice_get hs v)).images ≡ Some p → ShownIn (k n) u p (history_in (slice_get hs v)).writes
-shown_at k base v u n p [] e h f = grind (arith, common_steps)
-shown_at k base zero u n p (x ∷ hs) e h f = grind (arith, common_steps, point_shown)
-shown_at k base (suc v) u n p (x ∷ hs) e h f = grind (arith, common_steps, shown_at k (base + 1) v u n p hs)

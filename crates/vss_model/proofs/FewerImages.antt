@@ -1,22 +1,22 @@
--- Only the Cut step gives an image: after any other act each volume has no image of another set, and no more of them.
+-- Only a Commit step gives an image: after any other act each volume has no image of another set, and no more of them.
 use Rattle.std.proofs.Common.{◌≡◌, ◌∙◌, List, [], ◌∷◌, Option, Some, None, refl, Bool, true, false, length, fold, arith}
 use Rattle.std.specs.Prelude.{◌&&◌}
-use Rattle.vss_model.proofs.Terms.{nat_tests, common_steps, Mark, History, dropped, written, reverted, reverted_in_part, open_group, Course}
-use Rattle.vss_model.proofs.Terms.{stepped as course_stepped, Plan, Event, State, SetRow, in_progress, left_now, Ending, SetFails, ending, Act, after, state}
-use Rattle.vss_model.proofs.Terms.{is_provider, is_cut_group, Change, IsCutAt, Writes, Cuts, Reverts, RevertsPart, DropsSet, Drops, Evicts, apply}
-use Rattle.vss_model.proofs.StateForm.{images_dropped, concluded, followed, cut_set}
-use Rattle.vss_model.proofs.Changes.{Comes, is_end, by_changes}
-use Rattle.vss_model.proofs.CutStep.{by_cut}
-use Rattle.vss_model.proofs.Volumes.{FewerIn, fewer_in_same, fewer_in_over, fewer_in_map, fewer_in_change, fewer_in_gone, fewer_dropped, fewer_written, fewer_reverted, fewer_in_part, as_many_cut}
+use Rattle.vss_model.proofs.Terms.{nat_tests, common_steps, Mark, History, dropped, written, reverted, reverted_in_part, open_group, Course, Plan, Event, State}
+use Rattle.vss_model.proofs.Terms.{SetRow, in_progress, left_now, Ending, SetFails, ending, Act, after, state, is_provider, Change, Writes, Makes, Reverts}
+use Rattle.vss_model.proofs.Terms.{RevertsPart, DropsSet, Drops, Evicts, apply}
+use Rattle.vss_model.proofs.StateForm.{images_dropped, concluded, followed}
+use Rattle.vss_model.proofs.Changes.{Comes, by_changes}
+use Rattle.vss_model.proofs.CutStep.{is_commit}
+use Rattle.vss_model.proofs.Volumes.{FewerIn, fewer_in_same, fewer_in_over, fewer_in_map, fewer_in_change, fewer_in_gone, fewer_dropped, fewer_written}
+use Rattle.vss_model.proofs.Volumes.{fewer_reverted, fewer_in_part, as_many_change}
 
-abbrev pub is_cut : Change → Bool
-is_cut (IsCutAt n now) = true
-is_cut (Cuts n vs) = true
-is_cut _ = false
+abbrev pub gives_image : Change → Bool
+gives_image (Makes n v) = true
+gives_image _ = false
 
-pub fewer_apply : (c : Change) (x : State) → is_cut c ≡ false → FewerIn x.volumes (apply x c).volumes
+pub fewer_apply : (c : Change) (x : State) → gives_image c ≡ false → FewerIn x.volumes (apply x c).volumes
 fewer_apply (Writes v w) x e = fewer_in_change (written w) (fewer_written w) v x.volumes
-fewer_apply (Cuts n vs) x e = absurd cc
+fewer_apply (Makes n v) x e = absurd cc
 fewer_apply (Reverts v n p) x e = fewer_in_change (reverted n p) (fewer_reverted n p) v x.volumes
 fewer_apply (RevertsPart v blocks n p k) x e = fewer_in_change (reverted_in_part blocks n p k) (fewer_in_part blocks n p k) v x.volumes
 fewer_apply (DropsSet n) x e = fewer_in_map (dropped n) (fewer_dropped n) x.volumes
@@ -24,31 +24,14 @@ fewer_apply (Drops n v) x e = fewer_in_change (dropped n) (fewer_dropped n) v x.
 fewer_apply (Evicts n group) x e = fewer_in_gone n group x.volumes
 fewer_apply _ x e = fewer_in_same x.volumes
 
--- an act that is no Cut step cuts nothing
-pub no_cut : (s : Plan) (e : Event) (m : Mark) (st x : State) (c : Change) → (is_provider e && is_cut_group (open_group (left_now st))) ≡ false → Comes s e m st x c → is_cut c ≡ false
-no_cut s e m st x c f i = grind (arith, common_steps)
+-- an act that is no Commit step gives none
+pub no_image_given : (s : Plan) (e : Event) (m : Mark) (st x : State) (c : Change) → (is_provider e && is_commit (open_group (left_now st))) ≡ false → Comes s e m st x c → gives_image c ≡ false
+no_image_given s e m st x c f i = grind (arith, common_steps)
 
-pub fewer_after : (s : Plan) (st : State) (act : Act) → (is_provider act.event && is_cut_group (open_group (left_now st))) ≡ false → FewerIn st.volumes (after s st act).volumes
+pub fewer_after : (s : Plan) (st : State) (act : Act) → (is_provider act.event && is_commit (open_group (left_now st))) ≡ false → FewerIn st.volumes (after s st act).volumes
 fewer_after s st act f =
     by_changes (λ x. FewerIn st.volumes x.volumes) s st act
-    (λ c x i h. fewer_in_over st.volumes x.volumes _ h (fewer_apply c x (no_cut s act.event act.mark st x c f i))) (fewer_in_same st.volumes)
-
-end_no_cut : (c : Change) → is_end c ≡ true → is_cut c ≡ false
-end_no_cut c e = grind arith
-
--- nor does what ends with it
-pub by_cut_alone : (P : State → Type 0) (s : Plan) (st : State) (act : Act) (r : SetRow) → is_provider act.event ≡ true
-    → is_cut_group (open_group (left_now st)) ≡ true → in_progress st ≡ Some r
-    → ((c : Change) (x : State) → is_cut c ≡ false → Comes s act.event act.mark st x c → P x → P (apply x c))
-    → P (record (cut_set (Some r) st) { course = course_stepped true st.clock st.course }) → P (after s st act)
-by_cut_alone P s st act r e f g keeps h = by_cut P s st act r e f g (λ c x i. keeps c x (end_no_cut c i)) h
-
-pub fewer_after_cut : (s : Plan) (st : State) (act : Act) (r : SetRow) → is_provider act.event ≡ true → is_cut_group (open_group (left_now st)) ≡ true
-    → in_progress st ≡ Some r → FewerIn (cut_set (Some r) st).volumes (after s st act).volumes
-fewer_after_cut s st act r e f g =
-    let x = cut_set (Some r) st in
-    by_cut_alone (λ y. FewerIn x.volumes y.volumes) s st act r e f g (λ c y i j h. fewer_in_over x.volumes y.volumes _ h (fewer_apply c y i))
-    (fewer_in_same x.volumes)
+    (λ c x i h. fewer_in_over st.volumes x.volumes _ h (fewer_apply c x (no_image_given s act.event act.mark st x c f i))) (fewer_in_same st.volumes)
 
 -- ## where the course goes on
 
@@ -67,7 +50,7 @@ fewer_followed ran c st = fewer_concluded (ending st.course.outcome c.outcome ra
 -- ## as many volumes as at the start
 
 as_many_apply : (c : Change) (x : State) → length (apply x c).volumes ≡ length x.volumes
-as_many_apply c x = grind (arith, common_steps, as_many_cut, fewer_apply)
+as_many_apply c x = grind (arith, common_steps, as_many_change, fewer_apply)
 
 as_many_from : (s : Plan) (st : State) (acts : List Act) → length (fold (after s) st acts).volumes ≡ length st.volumes
 as_many_from s st [] = refl

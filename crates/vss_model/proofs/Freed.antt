@@ -1,5 +1,5 @@
 -- Right after an act in which the set in progress fails no agenda runs, so no volume is held and no writer stands frozen.
-use Rattle.std.proofs.Common.{◌≡◌, ℕ, ◌+◌, List, [], ◌∷◌, ◌++◌, ◌⊎◌, Option, Some, None, refl, true, false, map, sym, ap, ◌∙◌, subst, inl, inr, arith}
+use Rattle.std.proofs.Common.{◌≡◌, ℕ, List, [], ◌∷◌, ◌++◌, ◌⊎◌, Option, Some, None, refl, true, false, map, sym, ap, ◌∙◌, subst, inl, inr, arith}
 use Rattle.vss_model.proofs.Terms.{SetOutcome, Event, Mark, Agenda, left, is_working, failed as course_failed, released, Plan, State, SetRow, in_progress}
 use Rattle.vss_model.proofs.Terms.{row_of, is_held, is_frozen, with_volume, with_cut, Act, after, state, NumberedFrom, has_failed, is_live, Change, CourseIs}
 use Rattle.vss_model.proofs.Terms.{StartsSet, AddsVolume, IsCutAt, Settles, apply}
@@ -19,27 +19,27 @@ idle_moves : (a : Option Agenda) (o : SetOutcome) (b : Option Agenda) (p : SetOu
 idle_moves a o b p e m = grind arith
 
 module _ (n : ℕ) (s : Plan) (st : State) (live : is_live st.sets n ≡ true) where
-  idle_called : (x : State) (call : CourseCall) → IsDue st x.course call → Stands st x call → LiveOrIdle n x
+  idle_called : (e : Event) (x : State) (call : CourseCall) → IsDue st x.course call → Stands e st x call → LiveOrIdle n x
       → LiveOrIdle n (record x { course = called s st call x.course })
   unfolding course_failed released
-  idle_called x call i k (inl h) = inl h
-  idle_called x (Answers w said) i k (inr h) = inr (idle_moves x.course.agenda x.course.outcome _ _ h (moves_answered w said st.clock x.course))
-  idle_called x (Steps ok) i k (inr h) = inr
+  idle_called e x call i k (inl h) = inl h
+  idle_called e x (Answers w said) i k (inr h) = inr (idle_moves x.course.agenda x.course.outcome _ _ h (moves_answered w said st.clock x.course))
+  idle_called e x (Steps ok) i k (inr h) = inr
       (idle_moves x.course.agenda x.course.outcome _ _ h (moves_stepped ok st.clock x.course (subst (λ c. is_working (left c.agenda) ≡ true) (sym i.1) i.0)))
-  idle_called x (Times now) i k (inr h) = inr (idle_moves x.course.agenda x.course.outcome _ _ h (moves_timed now x.course))
-  idle_called x Gathers i k (inr h) = inl (ap (λ (y : State). is_live y.sets n) k ∙ live)
-  idle_called x (Prepares q) i k (inr h) = inl (ap (λ (y : State). is_live y.sets n) k ∙ live)
-  idle_called x Snapshots i k (inr h) = inl (ap (λ (y : State). is_live y.sets n) k.0 ∙ live)
-  idle_called x Completes i k (inr h) = inl (ap (λ (y : State). is_live y.sets n) k ∙ live)
-  idle_called x (Disables w) i k (inr h) = inr h
-  idle_called x _ i k (inr h) = inr refl
+  idle_called e x (Times now) i k (inr h) = inr (idle_moves x.course.agenda x.course.outcome _ _ h (moves_timed now x.course))
+  idle_called e x Gathers i k (inr h) = inl (ap (λ (y : State). is_live y.sets n) k ∙ live)
+  idle_called e x (Prepares q) i k (inr h) = inl (ap (λ (y : State). is_live y.sets n) k ∙ live)
+  idle_called e x Snapshots i k (inr h) = inl (ap (λ (y : State). is_live y.sets n) k.0 ∙ live)
+  idle_called e x Completes i k (inr h) = inl (ap (λ (y : State). is_live y.sets n) k ∙ live)
+  idle_called e x (Disables w) i k (inr h) = inr h
+  idle_called e x _ i k (inr h) = inr refl
 
   rows_live : (f : SetRow → SetRow) (x : State) → IsSameRow f → LiveOrIdle n x → LiveOrIdle n (record x { sets = map f x.sets })
   rows_live f x same (inl h) = inl (live-map f same x.sets n ∙ h)
   rows_live f x same (inr h) = inr h
 
   idle_apply : (e : Event) (m : Mark) (c : Change) (x : State) → Comes s e m st x c → LiveOrIdle n x → LiveOrIdle n (apply x c)
-  idle_apply e m (CourseIs c) x i h = subst (λ d. LiveOrIdle n (record x { course = d })) (sym i.is) (idle_called x i.call i.due i.stands h)
+  idle_apply e m (CourseIs c) x i h = subst (λ d. LiveOrIdle n (record x { course = d })) (sym i.is) (idle_called e x i.call i.due i.stands h)
   idle_apply e m (StartsSet r) x i (inl h) = inl (live_append x.sets r n h)
   idle_apply e m (StartsSet r) x i (inr h) = inr h
   idle_apply e m (AddsVolume k v) x i h = rows_live _ x (same_changed k (with_volume v) (λ y. refl) (λ y. refl)) h

@@ -1,26 +1,30 @@
 -- Before its writers are gathered a session names nothing and nobody takes part; from then on what it names are selectable
 -- components of writers that it knows, and only they take part.
-use Rattle.std.proofs.Common.{◌≡◌, ℕ, ◌+◌, ◌==◌, ◌<◌, zero, suc, List, [], ◌∷◌, ◌++◌, ◌⊎◌, Option, Some, None, refl, Bool, true, false, map, filter, ap, sym, ◌∙◌, subst, fold, inl, inr, arith}
+use Rattle.std.proofs.Common.{◌≡◌, ℕ, ◌+◌, ◌==◌, ◌<◌, zero, suc, List, [], ◌∷◌, ◌++◌, ◌⊎◌, Option, Some, None, refl, Bool, true, false, map, filter, ap, sym}
+use Rattle.std.proofs.Common.{◌∙◌, subst, fold, inl, inr, arith}
 use Rattle.std.specs.Prelude.{is_some, ◌&&◌, ◌||◌, not, if◌then◌else◌, slice_get, length}
 use Rattle.vss_model.proofs.Terms.{nat_tests, list_any, VssResult, AsyncCancelled, Said, WriterRow, row_gathered, Mark, Write, dropped, Meta, Pair, is_taker}
 use Rattle.vss_model.proofs.Terms.{takers, meta_at, is_selectable_of, names_selectable, list_all, and_parts, eqb-true, or_from, or_right, common_steps, Group}
-use Rattle.vss_model.proofs.Terms.{Kind, Gather, Prepare, Snapshot, Complete, Member, Agenda, is_among, open_group, Course, change_at, posted, settled, begun}
+use Rattle.vss_model.proofs.Terms.{Kind, Gather, Prepare, Snapshot, Complete, Member, Agenda, is_among, Course, change_at, posted, settled, begun}
 use Rattle.vss_model.proofs.Terms.{failed as course_failed, member_if, members_from, is_member, has_row_failed, answered as course_answered}
 use Rattle.vss_model.proofs.Terms.{stepped as course_stepped, timed as course_timed, released, Mode, Components, All, Stage, Opened, Gathered, Started, Session}
-use Rattle.vss_model.proofs.Terms.{has_writers, is_stage, Plan, WriterPlan, said_of, State, SetRow, Kept, start, in_progress, left_now, Ending, ending, runs}
-use Rattle.vss_model.proofs.Terms.{has_failed_identify, has_no_volume, with_volume, selected_in, is_known, known_from, known_metas, is_flush, is_failed_step}
-use Rattle.vss_model.proofs.Terms.{idle_now, Act, after, state, LetsGo, IsAgendaOf, Event, Change, apply}
+use Rattle.vss_model.proofs.Terms.{has_writers, is_stage, Plan, WriterPlan, said_of, State, SetRow, Kept, start, in_progress, Ending, ending, runs}
+use Rattle.vss_model.proofs.Terms.{has_failed_identify, has_no_volume, with_volume, selected_in, is_known, known_from, known_metas, idle_now, Act, after, state}
+use Rattle.vss_model.proofs.Terms.{LetsGo, IsAgendaOf, Event, Change, apply}
 use Rattle.component_doc.specs.Selection.{known_from as known_of}
 use Rattle.requestor.specs.declared.session_call.SessionCall.TheVariants as call
-use Rattle.vss_model.proofs.StateForm.{concluded, followed, failed_in, failed, put, write, reverted_as, start_set, change_set, closed, answered, step_made, stepped_as, stepped, ticked, later}
+use Rattle.vss_model.proofs.StateForm.{concluded, followed, failed_in, failed, put, write, reverted_as, start_set, change_set, closed, answered, step_made}
+use Rattle.vss_model.proofs.StateForm.{stepped_as, stepped, ticked, later}
 use Rattle.vss_model.proofs.Changes.{CourseCall, Answers, Steps, Times, Gathers, Prepares, Snapshots, Completes, Disables, Fails, Releases, called, IsDue}
 use Rattle.vss_model.proofs.Changes.{Stands, SessionStep, session_after, IsStepDue, Comes, by_all_changes, after_covered}
 use Rattle.vss_model.proofs.OrderlyActs.{orderly}
 use Rattle.vss_model.proofs.ByEvent.{Covers, Next, by_if}
+use Rattle.vss_model.proofs.Spoken.{filter_passes}
 use Rattle.vss_model.proofs.Rows.{none_runs}
 use Rattle.vss_model.proofs.Orderly.{true_not_false}
 use Rattle.vss_model.proofs.HeldOfSet.{Follows, goes_answered, goes_stepped, goes_timed}
-use Rattle.vss_model.proofs.KnownWriters.{is_unfit, AsFit, AsksFitIn, is_gathering, Keeps, keeps_failed, keeps_answered, keeps_stepped, keeps_timed, members_answered, members_timed}
+use Rattle.vss_model.proofs.KnownWriters.{is_unfit, AsFit, AsksFitIn, is_gathering, Keeps, keeps_failed, keeps_answered, keeps_stepped, keeps_timed}
+use Rattle.vss_model.proofs.KnownWriters.{members_answered, members_timed}
 use Rattle.vss_model.proofs.Named.{AreOver, known_same, named_over}
 
 -- ## the facts
@@ -139,17 +143,6 @@ taker_known All s st w over e = fit_of s st w (all_known (known_metas s st) 0 w 
   plus : (a : ℕ) → a ≡ 0 + a
   plus a = omega arith
 
-pub filter_passes : (test : ℕ → Bool) (w : ℕ) (xs : List ℕ) → is_among w (filter test xs) ≡ true → test w ≡ true
-filter_passes test w [] e = absurd cc
-filter_passes test w (x ∷ xs) e = by_test (test x) refl e (filter_passes test w xs) where
-  by_head : (b : Bool) → (x == w) ≡ b → test x ≡ true → (b || is_among w (filter test xs)) ≡ true → (is_among w (filter test xs) ≡ true → test w ≡ true) → test w ≡ true
-  by_head true f g h ih = subst (λ y. test y ≡ true) (eqb-true x w f) g
-  by_head false f g h ih = ih h
-
-  by_test : (b : Bool) → test x ≡ b → is_among w (if b then x ∷ filter test xs else filter test xs) ≡ true → (is_among w (filter test xs) ≡ true → test w ≡ true) → test w ≡ true
-  by_test true g h ih = by_head (x == w) refl g h ih
-  by_test false g h ih = ih h
-
 pub member_passes : (test : ℕ → Bool) (k : ℕ) (rows : List WriterRow) (w : ℕ) → is_member (members_from test k rows) w ≡ true → test w ≡ true
 member_passes test k [] w e = absurd cc
 member_passes test k (r ∷ rows) w e = by_test (test k) refl e (member_passes test (k + 1) rows w) where
@@ -239,15 +232,15 @@ module _ (s : Plan) (st : State) where
         over (inl k) = over_nothing (known_metas s st) st.explicit k.explicit
         over (inr k) = k.over
 
-  on_called : (x : State) (call : CourseCall) → IsDue st x.course call → Stands st x call → NamesKnown s x → With x (called s st call x.course)
+  on_called : (e : Event) (x : State) (call : CourseCall) → IsDue st x.course call → Stands e st x call → NamesKnown s x → With x (called s st call x.course)
   unfolding course_failed released
-  on_called x (Answers w said) i k (inl h) = goes_bare x _ (members_answered w said st.clock x.course) (goes_answered w said st.clock x.course) h
-  on_called x (Answers w said) i k (inr h) = goes_gathered x _ (keeps_answered w said st.clock x.course h.agenda) (goes_answered w said st.clock x.course) h
-  on_called x (Steps ok) i k (inl h) = goes_bare x _ (keeps_stepped ok st.clock x.course).members (goes_stepped ok st.clock x.course) h
-  on_called x (Steps ok) i k (inr h) = goes_gathered x _ (keeps_stepped ok st.clock x.course) (goes_stepped ok st.clock x.course) h
-  on_called x (Times now) i k (inl h) = goes_bare x _ (members_timed now x.course) (goes_timed now x.course) h
-  on_called x (Times now) i k (inr h) = goes_gathered x _ (keeps_timed now x.course h.agenda) (goes_timed now x.course) h
-  on_called x Gathers i k (inl h) =
+  on_called e x (Answers w said) i k (inl h) = goes_bare x _ (members_answered w said st.clock x.course) (goes_answered w said st.clock x.course) h
+  on_called e x (Answers w said) i k (inr h) = goes_gathered x _ (keeps_answered w said st.clock x.course h.agenda) (goes_answered w said st.clock x.course) h
+  on_called e x (Steps ok) i k (inl h) = goes_bare x _ (keeps_stepped ok st.clock x.course).members (goes_stepped ok st.clock x.course) h
+  on_called e x (Steps ok) i k (inr h) = goes_gathered x _ (keeps_stepped ok st.clock x.course) (goes_stepped ok st.clock x.course) h
+  on_called e x (Times now) i k (inl h) = goes_bare x _ (members_timed now x.course) (goes_timed now x.course) h
+  on_called e x (Times now) i k (inr h) = goes_gathered x _ (keeps_timed now x.course h.agenda) (goes_timed now x.course) h
+  on_called e x Gathers i k (inl h) =
       let c = record x.course { rows = map row_gathered x.course.rows } in
       inl (record {
         explicit = h.explicit;
@@ -255,20 +248,20 @@ module _ (s : Plan) (st : State) where
             ∙ h.members;
         agenda = bare_begun_agenda Gather _ [] st.clock c (inl refl);
       })
-  on_called x Gathers i k (inr h) =
+  on_called e x Gathers i k (inr h) =
       absurd (opened_not_late i.session.stage (has_writers i.session.context) i.goes.allowed
       (late_at x.session i.session (ap (λ (y : State). y.session) k ∙ i.goes.stands) h.late))
-  on_called x (Prepares q) i k h = subst (λ (y : State). With y (called s st (Prepares q) y.course)) (sym k) (on_prepare q x i.0 (subst (NamesKnown s) k h))
-  on_called x Snapshots i k (inl h) =
+  on_called e x (Prepares q) i k h = subst (λ (y : State). With y (called s st (Prepares q) y.course)) (sym k) (on_prepare q x i.0 (subst (NamesKnown s) k h))
+  on_called e x Snapshots i k (inl h) =
       inl (record {
         explicit = h.explicit;
         members = (begun_members Snapshot _ _ st.clock x.course).members
             ∙ h.members;
         agenda = bare_begun_agenda Snapshot _ _ st.clock x.course (inr h.members);
       })
-  on_called x Snapshots i k (inr h) = inr
+  on_called e x Snapshots i k (inr h) = inr
       (gathered_course s x _ (begun_members Snapshot _ _ st.clock x.course) (fit_begun_agenda Snapshot x.course.members _ st.clock x.course refl h.members) h)
-  on_called x Completes i k (inl h) =
+  on_called e x Completes i k (inl h) =
       let test = λ (m : Member). not (has_row_failed x.course.rows m.writer) in
       inl (record {
         explicit = h.explicit;
@@ -276,17 +269,17 @@ module _ (s : Plan) (st : State) where
             ∙ h.members;
         agenda = bare_begun_agenda Complete _ [] st.clock x.course (inr (ap (filter test) h.members));
       })
-  on_called x Completes i k (inr h) =
+  on_called e x Completes i k (inr h) =
       let test = λ (m : Member). not (has_row_failed x.course.rows m.writer) in
       inr (gathered_course s x _ (begun_members Complete _ [] st.clock x.course)
       (fit_begun_agenda Complete _ [] st.clock x.course refl (λ w e. h.members w (filter_member test x.course.members w e))) h)
-  on_called x (Disables w) i k (inl h) = inl (record { explicit = h.explicit; members = h.members; agenda = h.agenda })
-  on_called x (Disables w) i k (inr h) =
+  on_called e x (Disables w) i k (inl h) = inl (record { explicit = h.explicit; members = h.members; agenda = h.agenda })
+  on_called e x (Disables w) i k (inr h) =
       absurd (opened_not_late i.session.stage (has_writers i.session.context) i.goes.allowed
       (late_at x.session i.session (ap (λ (y : State). y.session) k ∙ i.goes.stands) h.late))
-  on_called x (Fails why) i k (inl h) = inl (record { explicit = h.explicit; members = h.members; agenda = tt })
-  on_called x (Fails why) i k (inr h) = inr (gathered_course s x _ (keeps_failed why x.course) tt h)
-  on_called x Releases i k h = inl (record { explicit = k.1; members = refl; agenda = tt })
+  on_called e x (Fails why) i k (inl h) = inl (record { explicit = h.explicit; members = h.members; agenda = tt })
+  on_called e x (Fails why) i k (inr h) = inr (gathered_course s x _ (keeps_failed why x.course) tt h)
+  on_called e x Releases i k h = inl (record { explicit = k.1; members = refl; agenda = tt })
 
   on_step : (e : Event) (x : State) (step : SessionStep) → IsStepDue e st x step → NamesKnown s x
       → NamesKnown s (record x { session = session_after st step x.session })
@@ -343,13 +336,13 @@ module _ (s : Plan) (st : State) where
   unfolding ticked
   knows_ticks n a = knows_followed (runs st) (course_timed (st.clock + n) st.course) (later n st) (keeps_timed (st.clock + n) st.course a)
 
-  knows_stepped_as : (fails : Bool) (g : Option Group) → KnowsStill (stepped_as fails g st)
-  knows_stepped_as true g = knows_followed (runs st) (course_stepped false st.clock st.course) st (keeps_stepped false st.clock st.course)
-  knows_stepped_as false g = knows_followed (runs st) (course_stepped true st.clock st.course) (step_made g st) (keeps_stepped true st.clock st.course)
+  knows_stepped_as : (fails : Bool) (g : Option Group) (v : Option ℕ) → KnowsStill (stepped_as fails g v st)
+  knows_stepped_as true g v = knows_followed (runs st) (course_stepped false st.clock st.course) st (keeps_stepped false st.clock st.course)
+  knows_stepped_as false g v = knows_followed (runs st) (course_stepped true st.clock st.course) (step_made g v st) (keeps_stepped true st.clock st.course)
 
   knows_steps : (mark : Mark) → KnowsStill (stepped mark st)
   unfolding stepped
-  knows_steps mark = knows_stepped_as (is_failed_step (is_flush (open_group (left_now st))) mark) (open_group (left_now st))
+  knows_steps mark = knows_stepped_as _ _ _
 
   knows_failed : (o : Option SetRow) (why : VssResult) (x : State) → x.course ≡ st.course → KnowsStill (failed_in o why x)
   knows_failed o why x e = grind (arith, knows_same, keeps_failed, knows_kept, course-concluded)

@@ -1,5 +1,5 @@
 -- A legal trail that is not complete can go on.
-use Rattle.std.proofs.Common.{◌≡◌, ℕ, ◌+◌, ◌==◌, zero, suc, List, [], ◌∷◌, ◌++◌, Option, Some, None, refl, Bool, true, false, ap, sym, ◌∙◌, subst, inl, inr, drop, arith}
+use Rattle.std.proofs.Common.{◌≡◌, ℕ, ◌==◌, zero, suc, List, [], ◌∷◌, ◌++◌, Option, Some, None, refl, Bool, true, false, ap, sym, ◌∙◌, subst, inl, inr, drop, arith}
 use Rattle.std.specs.Prelude.{option_map, ◌⊎◌, is_none, length, ◌&&◌, ◌||◌, not, slice_get}
 use Rattle.vss_model.proofs.Terms.{sum_by-append, list_all, range_with_len, and_from, and_parts, eq-eqb, eqb-true, common_steps, Actor, Lane, Writer, Advance}
 use Rattle.vss_model.proofs.Terms.{Mark, Clean, Move, is_asking, is_working, Session, agenda_ended, set_failed, Op, End, Plan, LaneLine, lines_of, Event, Line}

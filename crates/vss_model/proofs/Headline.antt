@@ -1,24 +1,22 @@
 -- Every run keeps its promises, and a legal and complete trail makes each line once.
-use Rattle.std.proofs.Common.{◌≡◌, ℕ, zero, suc, ◌+◌, ◌==◌, ◌<◌, ◌≤◌, List, [], ◌∷◌, ◌++◌, Option, Some, None, refl, Bool, true, false, ap, ◌∙◌, subst, length, inl, inr, arith}
+use Rattle.std.proofs.Common.{◌≡◌, ℕ, zero, suc, ◌+◌, ◌==◌, ◌<◌, ◌≤◌, List, [], ◌∷◌, ◌++◌, Option, Some, None, refl, Bool, true, false, ap, ◌∙◌, subst, length}
+use Rattle.std.proofs.Common.{inl, inr, arith}
 use Rattle.std.specs.Prelude.{◌⊎◌, is_none, not, slice_get}
-use Rattle.vss_model.proofs.Terms.{list_all, range_with_len, and_parts, eqb-true, cases_lt, common_steps, point_in, Actor, Lane, Move, open_group, is_among}
-use Rattle.vss_model.proofs.Terms.{Plan, LaneLine, LanePlan, lines_in, lines_of, State, SetRow, in_progress, row_of, left_now, history_of, is_held}
-use Rattle.vss_model.proofs.Terms.{is_frozen, runs, Act, after, state, cut, is_set as has_number, is_cut_group, IsShownAt, ReadsAsAtTheCut, LeavesNothing}
-use Rattle.vss_model.proofs.Terms.{IsHeldForSet, IsFrozenForSet, KeepsSet, MakesEachLineOnce, has_failed, RunsSnapshot, Run, run, begin, run_from, moved}
-use Rattle.vss_model.proofs.Terms.{is_lane, cursor, next_line, line_event, event_of, event_enabled, may_move, allows, is_legal_move, is_legal_from, is_legal}
-use Rattle.vss_model.proofs.Terms.{is_used_up, is_over, is_complete}
+use Rattle.vss_model.proofs.Terms.{list_all, range_with_len, and_parts, eqb-true, cases_lt, common_steps, point_in, Actor, Lane, Move, open_group, Plan}
+use Rattle.vss_model.proofs.Terms.{LaneLine, LanePlan, lines_in, lines_of, SetRow, in_progress, row_of, left_now, history_of, is_frozen, runs, Act, state, cut}
+use Rattle.vss_model.proofs.Terms.{is_set as has_number, is_cut_group, IsShownAt, ReadsAsAtTheCut, LeavesNothing, IsFrozenForSet, KeepsSet, MakesEachLineOnce}
+use Rattle.vss_model.proofs.Terms.{has_failed, Run, run, begin, run_from, moved, is_lane, cursor, next_line, line_event, event_of, event_enabled, may_move}
+use Rattle.vss_model.proofs.Terms.{allows, is_legal_move, is_legal_from, is_legal, is_used_up, is_over, is_complete}
 use Rattle.std.proofs.lemmas.Option.{slice_get_within}
-use Rattle.vss_model.proofs.OneCut.{image_shown, image_reads, cut_is_at}
+use Rattle.vss_model.proofs.OneCut.{image_shown, image_reads, image_of_set, cut_is_at}
 use Rattle.vss_model.proofs.AtCut.{held_at_cut, frozen_at_cut}
 use Rattle.vss_model.proofs.Failures.{failed_keeps_nothing, failed_has_no_copy}
-use Rattle.vss_model.proofs.HeldOfSet.{held_means, frozen_means}
+use Rattle.vss_model.proofs.HeldOfSet.{frozen_means}
 use Rattle.vss_model.proofs.HeldWrites.{held_keeps}
-use Rattle.vss_model.proofs.LogRule.{Running}
-use Rattle.vss_model.proofs.Spoken.{HoldsOwn, held_own, frozen_own}
+use Rattle.vss_model.proofs.Spoken.{frozen_own}
 use Rattle.vss_model.proofs.Freed.{not_held_after, not_frozen_after}
 use Rattle.vss_model.proofs.Completed.{imaged_after}
 use Rattle.vss_model.proofs.FlushFails.{flush_fails}
-use Rattle.vss_model.proofs.OfSet.{image_of_set}
 use Rattle.vss_model.proofs.Appending.{moves-run}
 use Rattle.vss_model.proofs.GoesOn.{cursor_more, cursor_same}
 
@@ -36,24 +34,13 @@ reads_as s so_far n v p h (Some before) e i =
 
 -- ## held and frozen
 
-held_volume : (st : State) (v : ℕ) (run : RunsSnapshot st) → Running HoldsOwn st.course.agenda → is_held st v ≡ true → is_among v run.set.volumes ≡ true
-held_volume st v run own e = grind arith
-
-pub held_for_set : (s : Plan) (so_far : List Act) (v : ℕ) → is_held (state s so_far) v ≡ true → IsHeldForSet (state s so_far) v
-held_for_set s so_far v e = grind (arith, held_means, held_volume, held_own)
-
 pub frozen_for_set : (s : Plan) (so_far : List Act) (w : ℕ) → is_frozen (state s so_far) w ≡ true → IsFrozenForSet (state s so_far) w
 frozen_for_set s so_far w e = grind (arith, common_steps, frozen_means, frozen_own)
 
 -- ## what an act keeps of the set in progress
 
-still : (s : Plan) (so_far : List Act) (act : Act) (v : ℕ) → is_held (state s so_far) v ≡ true → (history_of (after s (state s so_far) act) v).writes ≡ (history_of (state s so_far) v).writes
-still s so_far act v e =
-    let held = held_for_set s so_far v e in
-    held_keeps s so_far act held.run.set v held.run.in_progress_is held.volume e
-
 pub keeps_set : (s : Plan) (so_far : List Act) (r : SetRow) (act : Act) → in_progress (state s so_far) ≡ Some r → KeepsSet s (state s so_far) act r
-keeps_set s so_far r act e = grind (arith, still, not_held_after, not_frozen_after, imaged_after, flush_fails)
+keeps_set s so_far r act e = grind (arith, held_keeps, not_held_after, not_frozen_after, imaged_after, flush_fails)
 
 pub reads_as_at_cut : (s : Plan) (so_far : List Act) (n v p : ℕ) → point_in n (history_of (state s so_far) v).images ≡ Some p → ReadsAsAtTheCut s so_far n v p
 reads_as_at_cut s so_far n v p h = reads_as s so_far n v p h (cut s n so_far) refl (image_shown s so_far n v p h)

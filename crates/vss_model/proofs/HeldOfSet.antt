@@ -109,20 +109,20 @@ find-row_cut n now (r ∷ rows) = let ih = find-row_cut n now rows in grind (ari
 
 -- ## each change keeps it
 
-tied_called : (s : Plan) (st x : State) (call : CourseCall) → IsDue st x.course call → Stands st x call → IsTied x
+tied_called : (s : Plan) (e : Event) (st x : State) (call : CourseCall) → IsDue st x.course call → Stands e st x call → IsTied x
     → Tied (called s st call x.course).agenda (called s st call x.course).members (in_progress x)
 unfolding course_failed released
-tied_called s st x (Answers w said) i k h = tied_follows x.course.agenda x.course.members x.course.outcome _ _ _ (in_progress x)
+tied_called s e st x (Answers w said) i k h = tied_follows x.course.agenda x.course.members x.course.outcome _ _ _ (in_progress x)
     (goes_answered w said st.clock x.course) h
-tied_called s st x (Steps ok) i k h = tied_follows x.course.agenda x.course.members x.course.outcome _ _ _ (in_progress x) (goes_stepped ok st.clock x.course) h
-tied_called s st x (Times now) i k h = tied_follows x.course.agenda x.course.members x.course.outcome _ _ _ (in_progress x) (goes_timed now x.course) h
-tied_called s st x Gathers i k h = tied_begun Gather _ [] st.clock _ (in_progress x) tt
-tied_called s st x (Prepares q) i k h = tied_begun Prepare _ [] st.clock _ (in_progress x) tt
-tied_called s st x Snapshots i k h = tied_begun Snapshot _ _ st.clock x.course (in_progress x)
+tied_called s e st x (Steps ok) i k h = tied_follows x.course.agenda x.course.members x.course.outcome _ _ _ (in_progress x) (goes_stepped ok st.clock x.course) h
+tied_called s e st x (Times now) i k h = tied_follows x.course.agenda x.course.members x.course.outcome _ _ _ (in_progress x) (goes_timed now x.course) h
+tied_called s e st x Gathers i k h = tied_begun Gather _ [] st.clock _ (in_progress x) tt
+tied_called s e st x (Prepares q) i k h = tied_begun Prepare _ [] st.clock _ (in_progress x) tt
+tied_called s e st x Snapshots i k h = tied_begun Snapshot _ _ st.clock x.course (in_progress x)
     (own_set (in_progress st) (in_progress x) x.course.members (ap in_progress k.0) k.1)
-tied_called s st x Completes i k h = tied_begun Complete _ [] st.clock x.course (in_progress x) tt
-tied_called s st x (Disables w) i k h = h
-tied_called s st x _ i k h = tt
+tied_called s e st x Completes i k h = tied_begun Complete _ [] st.clock x.course (in_progress x) tt
+tied_called s e st x (Disables w) i k h = h
+tied_called s e st x _ i k h = tt
 
 quiet_tied : (st x : State) (r : Option SetRow) → x.course ≡ st.course → runs st ≡ false → Tied x.course.agenda x.course.members r
 quiet_tied st x r e f = tied_none x.course.agenda x.course.members r (ap (λ (c : Course). c.agenda) e ∙ none_runs st.course.agenda f)

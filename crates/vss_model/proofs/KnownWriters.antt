@@ -7,8 +7,6 @@ use Rattle.vss_model.proofs.Terms.{members_of, waited_for, with_group, left_from
 use Rattle.vss_model.proofs.Terms.{is_member, posted, failed as course_failed, settled_if, settled, told, answered as course_answered, worked}
 use Rattle.vss_model.proofs.Terms.{stepped as course_stepped, timed as course_timed, is_identify_failure, has_failed_identify, IsAsked, IsKeptFrom}
 use Rattle.vss_model.proofs.Terms.{from_answered, from_timed, IsKeptInCourse, course_answered as kept_answered, course_timed as kept_timed}
-use Rattle.vss_names.specs.declared.writer_state.WriterState.{WriterState}
-use Rattle.vss_names.specs.declared.writer_state.WriterState.TheVariants as state
 use Rattle.vss_model.proofs.CourseCalls.{now_orders}
 use Rattle.vss_model.proofs.Spoken.{waits_members, among_filter, among_members}
 

@@ -15,13 +15,13 @@ pub mod LogRule
 pub mod CutLog
 pub mod AtCut
 pub mod Spoken
+pub mod SaidBefore
 pub mod CutStep
 pub mod CutHistory
 pub mod CutAppend
 pub mod OneCut
 pub mod Volumes
 pub mod FewerImages
-pub mod OfSet
 pub mod HoldOpen
 pub mod KnownWriters
 pub mod Named

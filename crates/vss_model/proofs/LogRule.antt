@@ -22,8 +22,8 @@ abbrev pub Running : (Agenda → Type 0) → Option Agenda → Type 0
 Running P None = Unit {0}
 Running P (Some a) = P a
 
-pub course-step_made : (g : Option Group) (st : State) → (step_made g st).course ≡ st.course
-course-step_made g st = grind arith
+pub course-step_made : (g : Option Group) (v : Option ℕ) (st : State) → (step_made g v st).course ≡ st.course
+course-step_made g v st = grind arith
 
 module _ (P : Agenda → Type 0) (k : IsKeptInLog P) where
   on_call : (writers : Bool) (a : Option Agenda) (o : SetOutcome) (b : Option Agenda) (p : SetOutcome) → Call writers a o b p → Running P a → Running P b

@@ -1,30 +1,41 @@
 -- Every act keeps what the images show.
 use Rattle.std.proofs.Common.{◌≡◌, ℕ, ◌+◌, ◌==◌, ◌<◌, ◌≤◌, zero, suc, List, [], ◌∷◌, ◌++◌, Option, Some, None, refl, Bool, true, false, map, length, take, ap}
 use Rattle.std.proofs.Common.{sym, ◌∙◌, subst, find, fold, inl, inr, arith}
-use Rattle.std.specs.Prelude.{option_map, ◌⊎◌, ◌&&◌, if◌then◌else◌, slice_get}
-use Rattle.vss_model.proofs.Terms.{nat_tests, list_any-append, take-append_seam, length_push, length-map, eqb-true, ltb-true, common_steps, SetOutcome, Member}
-use Rattle.vss_model.proofs.Terms.{Mark, Write, Image, History, content, fresh, point_in, dropped, written, reverted, AreLater, AreInTime, Snapshot, Agenda}
-use Rattle.vss_model.proofs.Terms.{left, is_working, open_group, is_snapshot, is_among, Course, posted, settled, worked, failed as course_failed}
-use Rattle.vss_model.proofs.Terms.{stepped as course_stepped, released, Plan, VolumeRow, State, SetRow, row_changed, Kept, start, is_running, in_progress}
-use Rattle.vss_model.proofs.Terms.{row_of, history_in, history_of, left_now, kept_of, row_settled, runs, with_volume, cut_if as history_cut_if, cut_each}
-use Rattle.vss_model.proofs.Terms.{row_cut, Act, after, state, NumberedFrom, OverButNewest, IsOrderly, is_provider, is_cut_group, is_set, is_cut_of, cut_from}
-use Rattle.vss_model.proofs.Terms.{cut, IsShownAt, Event, Change, Passes, SessionIs, StartsSet, AddsVolume, IsCutAt as CutsAt, CourseIs, Settles, Writes, Cuts}
-use Rattle.vss_model.proofs.Terms.{Reverts, RevertsPart, DropsSet, Drops, Evicts, apply}
-use Rattle.vss_model.proofs.StateForm.{cut_set, later}
+use Rattle.std.specs.Prelude.{option_map, is_some, ◌⊎◌, ◌&&◌, if◌then◌else◌, nat_lt}
+use Rattle.vss_model.proofs.Terms.{nat_tests, take-append_seam, length_push, length-map, eqb-true, cases_lt, common_steps, SetOutcome, Member, Mark, Write}
+use Rattle.vss_model.proofs.Terms.{Image, History, content, fresh, point_in, dropped, written, reverted, reverted_in_part, AreLater, AreInTime, Kind, Snapshot}
+use Rattle.vss_model.proofs.Terms.{Hold, Cut, Commit, Release, Agenda, Open, plain, same_place, has_said, left, groups_left, open_place, next_member}
+use Rattle.vss_model.proofs.Terms.{is_working, open_group, is_snapshot, is_among, Course, change_at, failed as course_failed, stepped as course_stepped}
+use Rattle.vss_model.proofs.Terms.{released, Plan, VolumeRow, State, SetRow, row_changed, Kept, is_running, in_progress, row_of, history_of, left_now, is_held}
+use Rattle.vss_model.proofs.Terms.{has_image, kept_of, row_settled, runs, is_in_set, with_volume, volumes_of, row_cut, Act, after, state, NumberedFrom}
+use Rattle.vss_model.proofs.Terms.{OverButNewest, IsOrderly, is_provider, is_cut_group, is_set, is_cut_of, cut_from, cut, IsShownAt, Event, Change, Passes}
+use Rattle.vss_model.proofs.Terms.{SessionIs, StartsSet, AddsVolume, IsCutAt as CutsAt, CourseIs, Settles, Writes, Makes, Reverts, RevertsPart, DropsSet, Drops}
+use Rattle.vss_model.proofs.Terms.{Evicts, apply}
+use Rattle.write_history.specs.History.{cut as history_cut}
+use Rattle.set_agenda.specs.Agenda.{is_held as holds}
+use Rattle.vss_model.proofs.StateForm.{cut_set, image_made, later}
 use Rattle.vss_model.specs.Cut.{cut_if, IsCutAt}
 use Rattle.vss_model.specs.Changes.{Names}
+use Rattle.vss_model.proofs.ByEvent.{some_same}
 use Rattle.vss_model.proofs.Changes.{CourseCall, Answers, Steps, Times, Gathers, Prepares, Snapshots, Completes, Disables, Fails, Releases, called, IsDue}
 use Rattle.vss_model.proofs.Changes.{Stands, Comes, is_end, by_changes}
-use Rattle.vss_model.proofs.FewerImages.{is_cut, no_cut}
-use Rattle.vss_model.proofs.Rows.{none_runs}
+use Rattle.vss_model.proofs.FewerImages.{gives_image, no_image_given, fewer_apply}
+use Rattle.vss_model.proofs.Rows.{none_runs, number-cut}
 use Rattle.vss_model.proofs.Appending.{state-append}
-use Rattle.vss_model.proofs.Orderly.{find-map, find-settled_over, find-settled_running}
+use Rattle.vss_model.proofs.Orderly.{find-map, find-settled_over, find-settled_running, true_not_false}
 use Rattle.vss_model.proofs.OrderlyActs.{EndsIn, Moves, moves_answered, moves_stepped, moves_timed, orderly}
-use Rattle.vss_model.proofs.HeldOfSet.{IsSameAgenda, Follows, goes_answered, goes_stepped, goes_timed}
+use Rattle.vss_model.proofs.HeldOfSet.{IsOf, IsSameAgenda, Follows, Tied, tied, goes_answered, goes_stepped, goes_timed, find-row_cut}
+use Rattle.vss_model.proofs.HeldWrites.{rewrites, same_writes, held_unwritten}
 use Rattle.vss_model.proofs.CutLog.{is_cut_made}
-use Rattle.vss_model.proofs.AtCut.{IsAtCut, CutsNow, cuts, cut_is_open}
-use Rattle.vss_model.proofs.CutStep.{both, working_at_cut, has_set, by_cut}
-use Rattle.vss_model.proofs.CutHistory.{Above, Shown, no_greater, Known, writes_at, ShownIn, IsShown, AllShown, all-map, all-change_at, all-gone, all_along, shown-reverted, shown-reverted_in_part, shown-dropped, shown-written, shown-cut, below-known, shown_at, append_none}
+use Rattle.vss_model.proofs.AtCut.{IsAtCut, CutsNow, cuts, cut_is_open, all_said, tied_to}
+use Rattle.vss_model.proofs.CutStep.{both, working_at_cut, working_at_commit, has_set, by_cut, by_image, is_commit, IsAtCommit, at_commit, SaysStep}
+use Rattle.vss_model.proofs.CutStep.{says_stepped}
+use Rattle.vss_model.proofs.LogRule.{Running}
+use Rattle.vss_model.proofs.Spoken.{HoldsFirst, held_first, CommitsFirst, commits_first}
+use Rattle.vss_model.proofs.SaidBefore.{SaidIn, MakesNone, said_called}
+use Rattle.vss_model.proofs.Volumes.{at, at_change, each_map, each_change, each_gone}
+use Rattle.vss_model.proofs.CutHistory.{Above, Shown, no_greater, Known, writes_at, ShownIn, IsShown, AllShown, shown-filter, shown-reverted}
+use Rattle.vss_model.proofs.CutHistory.{shown-reverted_in_part, shown-dropped, shown-written, shown-cut, shown_along, point_shown, append_none}
 
 -- ## facts of the set in progress
 
@@ -61,13 +72,13 @@ module _ (R : Option Agenda → Option SetRow → Type 0) (U : Option SetRow →
   moves_in found (Some a) ms o (Some b) ns p m f (inl h) = inl (k.goes a b ms ns o p found f h)
   moves_in found (Some a) ms o b ns p m f (inr h) = absurd cc
 
-  module _ (s : Plan) (st x : State) (first : x ≡ st → R x.course.agenda (in_progress x)) where
+  module _ (s : Plan) (e : Event) (st x : State) (first : x ≡ st → R x.course.agenda (in_progress x)) where
     begins_in : (a : Option Agenda) (p : SetOutcome) → x ≡ st → runs st ≡ false → HoldsIn (in_progress x) a p
-    begins_in a p e f =
+    begins_in a p g f =
         inl (k.any a (in_progress x)
-        (k.quiet (in_progress x) (subst (λ b. R b (in_progress x)) (ap (λ (y : State). y.course.agenda) e ∙ none_runs st.course.agenda f) (first e))))
+        (k.quiet (in_progress x) (subst (λ b. R b (in_progress x)) (ap (λ (y : State). y.course.agenda) g ∙ none_runs st.course.agenda f) (first g))))
 
-    pub on_called : (call : CourseCall) → IsDue st x.course call → Stands st x call → HoldsIn (in_progress x) x.course.agenda x.course.outcome
+    pub on_called : (call : CourseCall) → IsDue st x.course call → Stands e st x call → HoldsIn (in_progress x) x.course.agenda x.course.outcome
         → HoldsIn (in_progress x) (called s st call x.course).agenda (called s st call x.course).outcome
     unfolding course_failed released
     on_called (Answers w said) i j h = moves_in (in_progress x) x.course.agenda x.course.members x.course.outcome _ _ _
@@ -91,47 +102,165 @@ module _ (R : Option Agenda → Option SetRow → Type 0) (U : Option SetRow →
 
 -- ## the fact
 
--- the set in progress was cut only where its agenda runs and says so
-abbrev MadeIn : Option (List History) → Option Agenda → Type 0
-MadeIn None a = Unit {0}
-MadeIn (Some hs) None = ⊥
-MadeIn (Some hs) (Some a) = (is_snapshot a.kind ≡ true) × (is_cut_made a.log ≡ true)
+-- the writes of a volume are those at the cut until it is released; m says whether it was held before the act
+abbrev pub Since : Bool → Bool → List Write → List Write → Type 0
+Since true released old new = released ≡ false → new ≡ old
+Since false released old new = released ≡ true
 
-abbrev Progress : Known → Option Agenda → Option SetRow → Type 0
-Progress k a None = Unit {0}
-Progress k a (Some r) = MadeIn (k r.number) a
+-- set n was cut in state y: its agenda runs and says so, and a volume has its image only once its Commit step is made
+pub record IsSince (m : ℕ → Bool) (n : ℕ) (y : State) (a : Agenda) (hs : List History) : Type 0 where
+  pub snapshot : is_snapshot a.kind ≡ true
+  pub cut : is_cut_made a.log ≡ true
+  pub volumes : a.volumes ≡ volumes_of (in_progress y)
+  pub still : (u : ℕ) → is_among u a.volumes ≡ true → Since (m u) (has_said a.log (plain Release) u) (writes_at y u) (at hs u).writes
+  pub none : (u : ℕ) → has_said a.log (plain Commit) u ≡ false → has_image n (at hs u) ≡ false
+
+abbrev pub MadeIn : (ℕ → Bool) → ℕ → List History → Option State → Option Agenda → Type 0
+MadeIn m n hs None a = Unit {0}
+MadeIn m n hs (Some y) None = ⊥
+MadeIn m n hs (Some y) (Some a) = IsSince m n y a hs
+
+abbrev pub Progress : (ℕ → Bool) → Known → List History → Option Agenda → Option SetRow → Type 0
+Progress m k hs a None = Unit {0}
+Progress m k hs a (Some r) = MadeIn m r.number hs (k r.number) a
 
 -- the set in progress was not cut
-abbrev Uncut : Known → Option SetRow → Type 0
+abbrev pub Uncut : Known → Option SetRow → Type 0
 Uncut k None = Unit {0}
 Uncut k (Some r) = k r.number ≡ None
 
-made_in_none : (o : Option (List History)) → o ≡ None → (a : Option Agenda) → MadeIn o a
-made_in_none o e a = grind arith
+made_in_none : (m : ℕ → Bool) (n : ℕ) (hs : List History) (o : Option State) → o ≡ None → (a : Option Agenda) → MadeIn m n hs o a
+made_in_none m n hs o e a = grind arith
 
-cut_fact : (k : Known) → IsSetFact (Progress k) (Uncut k)
-cut_fact k = grind (arith, common_steps, made_in_none)
+since_later : (b c d : Bool) (old new : List Write) → (c ≡ true → d ≡ true) → Since b c old new → Since b d old new
+since_later b c d old new f h = grind arith
 
-record IsCut (k : Known) (x : State) : Type 0 where
-  shown : AllShown k 0 x.volumes
-  progress : HoldsIn (Progress k) (Uncut k) (cut_fact k) (in_progress x) x.course.agenda x.course.outcome
-  fresh : (n : ℕ) → length x.sets < n → k n ≡ None
+unsaid_before : (b c : Bool) → (b ≡ true → c ≡ true) → c ≡ false → b ≡ false
+unsaid_before b c f e = grind arith
+
+made_goes : (m : ℕ → Bool) (n : ℕ) (hs : List History) (y : Option State) (a b : Agenda) (ms ns : List Member) (o p : SetOutcome) → IsSameAgenda a b ms ns o p
+    → MadeIn m n hs y (Some a) → MadeIn m n hs y (Some b)
+made_goes m n hs None a b ms ns o p s h = tt
+made_goes m n hs (Some y) a b ms ns o p s h = record {
+  snapshot = ap is_snapshot s.kind ∙ h.snapshot;
+  cut = s.said (plain Cut) 0 h.cut;
+  volumes = s.volumes ∙ h.volumes;
+  still = λ u e. since_later (m u) _ _ _ _ (s.said (plain Release) u) (h.still u (subst (λ vs. is_among u vs ≡ true) s.volumes e));
+  none = λ u e. h.none u (unsaid_before _ _ (s.said (plain Commit) u) e);
+}
+
+progress_goes : (m : ℕ → Bool) (k : Known) (hs : List History) (a b : Agenda) (ms ns : List Member) (o p : SetOutcome) (found : Option SetRow) → IsSameAgenda a b ms ns o p
+    → Progress m k hs (Some a) found → Progress m k hs (Some b) found
+progress_goes m k hs a b ms ns o p None s h = tt
+progress_goes m k hs a b ms ns o p (Some r) s h = made_goes m r.number hs (k r.number) a b ms ns o p s h
+
+pub cut_fact : (m : ℕ → Bool) (k : Known) (hs : List History) → IsSetFact (Progress m k hs) (Uncut k)
+cut_fact m k hs = grind (arith, common_steps, made_in_none, progress_goes)
+
+-- the agenda says that the Cut step is made
+abbrev pub Cuts : Option Agenda → Type 0
+Cuts a = SaidIn (plain Cut) 0 a
+
+abbrev pub KnownNow : Known → Option SetRow → Type 0
+KnownNow k None = Unit {0}
+KnownNow k (Some r) = is_some (k r.number) ≡ true
+
+pub record IsCut (m : ℕ → Bool) (k : Known) (x : State) : Type 0 where
+  pub shown : AllShown k x.volumes
+  pub progress : HoldsIn (Progress m k x.volumes) (Uncut k) (cut_fact m k x.volumes) (in_progress x) x.course.agenda x.course.outcome
+  pub known : Cuts x.course.agenda → KnownNow k (in_progress x)
+  pub fresh : (n : ℕ) → length x.sets < n → k n ≡ None
+
+-- at the end of an act it does not matter which volumes were held before
+abbrev pub always : ℕ → Bool
+always v = true
+
+since_rest : (b c : Bool) (old new : List Write) → Since b c old new → Since true c old new
+since_rest b c old new h = grind arith
+
+since_held : (b c : Bool) (old new : List Write) → (b ≡ false → c ≡ true) → Since true c old new → Since b c old new
+since_held b c old new f h = grind arith
+
+since_same : (b c : Bool) (old new other : List Write) → (b ≡ true → other ≡ new) → Since b c old new → Since b c old other
+since_same b c old new other f h = grind arith
+
+-- other volumes, or another view of who was held
+progress_along : (m l : ℕ → Bool) (k : Known) (hs ks : List History) (a : Option Agenda) (found : Option SetRow)
+    → ((n : ℕ) (y : State) (b : Agenda) → a ≡ Some b → IsSince m n y b hs → IsSince l n y b ks) → Progress m k hs a found → Progress l k ks a found
+progress_along m l k hs ks a None f h = tt
+progress_along m l k hs ks a (Some r) f h = by_cases (k r.number) a refl h where
+  by_cases : (y : Option State) (o : Option Agenda) → a ≡ o → MadeIn m r.number hs y o → MadeIn l r.number ks y o
+  by_cases None o e g = tt
+  by_cases (Some y) None e g = g
+  by_cases (Some y) (Some b) e g = f r.number y b e g
+
+holds_along : (m l : ℕ → Bool) (k : Known) (hs ks : List History) (x : State) → ((n : ℕ) (y : State) (b : Agenda) → x.course.agenda ≡ Some b → IsSince m n y b hs → IsSince l n y b ks)
+    → HoldsIn (Progress m k hs) (Uncut k) (cut_fact m k hs) (in_progress x) x.course.agenda x.course.outcome
+    → HoldsIn (Progress l k ks) (Uncut k) (cut_fact l k ks) (in_progress x) x.course.agenda x.course.outcome
+holds_along m l k hs ks x f (inl h) = inl (progress_along m l k hs ks x.course.agenda (in_progress x) f h)
+holds_along m l k hs ks x f (inr h) = inr h
+
+to_rest : (m : ℕ → Bool) (k : Known) (x : State) → IsCut m k x → IsCut always k x
+to_rest m k x h = record {
+  shown = h.shown;
+  progress = holds_along m always k x.volumes x.volumes x
+      (λ n y b e g. record { snapshot = g.snapshot; cut = g.cut; volumes = g.volumes; still = λ u i. since_rest (m u) _ _ _ (g.still u i); none = g.none }) h.progress;
+  known = h.known;
+  fresh = h.fresh;
+}
+
+-- once the Cut step is made, a volume of the set that is not held is released
+released_since : (a : Agenda) (u : ℕ) → is_snapshot a.kind ≡ true → has_said a.log (plain Hold) u ≡ true → holds (Some a) u ≡ false → has_said a.log (plain Release) u ≡ true
+released_since a u e f g = grind (arith, common_steps)
+
+to_act : (s : Plan) (acts : List Act) (k : Known) → IsCut always k (state s acts) → IsCut (is_held (state s acts)) k (state s acts)
+to_act s acts k h =
+    let st = state s acts in
+    record {
+      shown = h.shown;
+      progress = holds_along always (is_held st) k st.volumes st.volumes st
+          (λ n y b e g. record {
+            snapshot = g.snapshot;
+            cut = g.cut;
+            volumes = g.volumes;
+            still = λ u i. since_held (is_held st u) _ _ _
+                (λ free. released_since b u g.snapshot (all_said b.log (plain Hold) b.volumes u (subst (Running HoldsFirst) e (held_first s acts) g.cut) i)
+                (sym (ap (λ (o : Option Agenda). holds o u) e) ∙ free)) (g.still u i);
+            none = g.none;
+          })
+          h.progress;
+      known = h.known;
+      fresh = h.fresh;
+    }
 
 -- ## each change
+
+abbrev pub is_cut : Change → Bool
+is_cut (CutsAt n now) = true
+is_cut _ = false
+
+-- an act that is no Cut step cuts nothing
+no_cut : (s : Plan) (e : Event) (m : Mark) (st x : State) (c : Change) → (is_provider e && is_cut_group (open_group (left_now st))) ≡ false → Comes s e m st x c → is_cut c ≡ false
+no_cut s e m st x c f i = grind (arith, common_steps)
 
 fresh_length : (k : Known) (m n : ℕ) → m ≡ n → ((i : ℕ) → n < i → k i ≡ None) → (i : ℕ) → m < i → k i ≡ None
 fresh_length k m n e h i l = h i (subst (λ x. x < i) e l)
 
-progress_same : (k : Known) (a : Option Agenda) (f : SetRow → SetRow) → ((r : SetRow) → (f r).number ≡ r.number) → (o : Option SetRow) → Progress k a o → Progress k a (option_map f o)
-progress_same k a f same o h = grind arith
+progress_same : (m : ℕ → Bool) (k : Known) (hs : List History) (a : Option Agenda) (f : SetRow → SetRow) → ((r : SetRow) → (f r).number ≡ r.number) → (o : Option SetRow) → Progress m k hs a o
+    → Progress m k hs a (option_map f o)
+progress_same m k hs a f same o h = grind arith
+
+known_same : (k : Known) (f : SetRow → SetRow) → ((r : SetRow) → (f r).number ≡ r.number) → (o : Option SetRow) → KnownNow k o → KnownNow k (option_map f o)
+known_same k f same o h = grind arith
 
 -- a set is started: it was not cut
-found_append : (k : Known) (a : Option Agenda) (rows : List SetRow) (r : SetRow) → k r.number ≡ None → Progress k a (find (λ q. is_running q.result) rows) → Progress k a (find (λ q. is_running q.result) (rows ++ r ∷ []))
-found_append k a [] r e h = grind (arith, common_steps, made_in_none)
-found_append k a (q ∷ rows) r e h = head_if (is_running q.result) h (found_append k a rows r e) where
-  head_if : (b : Bool) → Progress k a (if b then Some q else find (λ q. is_running q.result) rows)
-      → (Progress k a (find (λ q. is_running q.result) rows) → Progress k a (find (λ q. is_running q.result) (rows ++ r ∷ [])))
-      → Progress k a (if b then Some q else find (λ q. is_running q.result) (rows ++ r ∷ []))
+found_append : (m : ℕ → Bool) (k : Known) (hs : List History) (a : Option Agenda) (rows : List SetRow) (r : SetRow) → k r.number ≡ None → Progress m k hs a (find (λ q. is_running q.result) rows)
+    → Progress m k hs a (find (λ q. is_running q.result) (rows ++ r ∷ []))
+found_append m k hs a [] r e h = grind (arith, common_steps, made_in_none)
+found_append m k hs a (q ∷ rows) r e h = head_if (is_running q.result) h (found_append m k hs a rows r e) where
+  head_if : (b : Bool) → Progress m k hs a (if b then Some q else find (λ q. is_running q.result) rows)
+      → (Progress m k hs a (find (λ q. is_running q.result) rows) → Progress m k hs a (find (λ q. is_running q.result) (rows ++ r ∷ [])))
+      → Progress m k hs a (if b then Some q else find (λ q. is_running q.result) (rows ++ r ∷ []))
   head_if true h ih = h
   head_if false h ih = ih h
 
@@ -141,24 +270,40 @@ changed_number b f r e = grind arith
 pub changed_result : (b : Bool) (f : SetRow → SetRow) (r : SetRow) → (f r).result ≡ r.result → (if b then f r else r).result ≡ r.result
 changed_result b f r e = grind arith
 
-rows_change : (k : Known) (f : SetRow → SetRow) → ((r : SetRow) → (f r).number ≡ r.number) → ((r : SetRow) → (f r).result ≡ r.result) → (x : State) → IsCut k x
-    → IsCut k (record x { sets = map f x.sets })
-rows_change k f number result x
-    h = record {
+rows_change : (m : ℕ → Bool) (k : Known) (f : SetRow → SetRow) → ((r : SetRow) → (f r).number ≡ r.number) → ((r : SetRow) → (f r).result ≡ r.result) → (x : State) → IsCut m k x
+    → IsCut m k (record x { sets = map f x.sets })
+rows_change m k f number result x h =
+    let same = find-map f (λ r. ap is_running (result r)) x.sets in
+    record {
       shown = h.shown;
       progress = by_cases h.progress;
-      fresh = fresh_length k (length (map f x.sets)) (length x.sets)
-          (length-map x.sets f) h.fresh;
+      known = λ g. subst (KnownNow k) (sym same) (known_same k f number (in_progress x) (h.known g));
+      fresh = fresh_length k (length (map f x.sets)) (length x.sets) (length-map x.sets f) h.fresh;
     } where
-      by_cases : Progress k x.course.agenda (in_progress x) ⊎ IsOver x.course.agenda x.course.outcome
-          → Progress k x.course.agenda (find (λ r. is_running r.result) (map f x.sets)) ⊎ IsOver x.course.agenda x.course.outcome
+      by_cases : Progress m k x.volumes x.course.agenda (in_progress x) ⊎ IsOver x.course.agenda x.course.outcome
+          → Progress m k x.volumes x.course.agenda (find (λ r. is_running r.result) (map f x.sets)) ⊎ IsOver x.course.agenda x.course.outcome
       by_cases (inl p) = inl
-          (subst (Progress k x.course.agenda) (sym (find-map f (λ r. ap is_running (result r)) x.sets))
-          (progress_same k x.course.agenda f number (in_progress x) p))
+          (subst (Progress m k x.volumes x.course.agenda) (sym (find-map f (λ r. ap is_running (result r)) x.sets))
+          (progress_same m k x.volumes x.course.agenda f number (in_progress x) p))
       by_cases (inr p) = inr p
 
-with_volumes : (k : Known) (hs : List History) (x : State) → AllShown k 0 hs → IsCut k x → IsCut k (record x { volumes = hs })
-with_volumes k hs x shown h = record { shown = shown; progress = h.progress; fresh = h.fresh }
+-- no image is given, and no held volume is written to
+with_volumes : (m : ℕ → Bool) (k : Known) (c : Change) (x : State) → gives_image c ≡ false → ((u : ℕ) → m u ≡ true → rewrites u c ≡ false) → AllShown k (apply x c).volumes
+    → IsCut m k x → IsCut m k (record x { volumes = (apply x c).volumes })
+with_volumes m k c x e f shown h = record {
+  shown = shown;
+  progress = holds_along m m k x.volumes (apply x c).volumes x
+      (λ n y b i g. record {
+        snapshot = g.snapshot;
+        cut = g.cut;
+        volumes = g.volumes;
+        still = λ u j. since_same (m u) _ _ _ _ (λ held. same_writes u c x (f u held)) (g.still u j);
+        none = λ u j. unsaid_before _ _ (((fewer_apply c x e).each u).sets n) (g.none u j);
+      })
+      h.progress;
+  known = h.known;
+  fresh = h.fresh;
+}
 
 pub row_number : (n : ℕ) (rows : List SetRow) (r : SetRow) → find (λ q. q.number == n) rows ≡ Some r → r.number ≡ n
 row_number n [] r e = absurd cc
@@ -170,83 +315,90 @@ row_number n (q ∷ rows) r e = head_if (q.number == n) refl e (row_number n row
 pub kept_point : (n : ℕ) (o : Option SetRow) (p : Option ℕ) (x : Kept) → ((r : SetRow) → o ≡ Some r → r.number ≡ n) → kept_of o p ≡ Some x → (x.row.number ≡ n) × (p ≡ Some x.point)
 kept_point n o p x number e = grind arith
 
-on_end : (k : Known) (s : Plan) (e : Event) (m : Mark) (st : State) (c : Change) (x : State) → is_end c ≡ true → Comes s e m st x c → IsCut k x
-    → IsCut k (apply x c)
-on_end k s e m st (SessionIs q) x f i h = record { shown = h.shown; progress = h.progress; fresh = h.fresh }
-on_end k s e m st (Settles o) x f i h = record {
-  shown = h.shown;
-  progress = inl (on_settled (Progress k) (Uncut k) (cut_fact k) x o i h.progress);
-  fresh = fresh_length k (length (map (row_settled o) x.sets)) (length x.sets) (length-map x.sets (row_settled o)) h.fresh;
-}
-on_end k s e m st (DropsSet n) x f i h = with_volumes k _ x (all-map k (dropped n) (shown-dropped n k) 0 x.volumes h.shown) h
-on_end k s e m st _ x f i h = absurd cc
+module _ (m : ℕ → Bool) (k : Known) (s : Plan) (e : Event) (mark : Mark) (st : State) where
+  on_end : (c : Change) (x : State) → is_end c ≡ true → Comes s e mark st x c → IsCut m k x → IsCut m k (apply x c)
+  on_end (SessionIs q) x f i h = record { shown = h.shown; progress = h.progress; known = h.known; fresh = h.fresh }
+  on_end (Settles o) x f i h = record {
+    shown = h.shown;
+    progress = inl (on_settled (Progress m k x.volumes) (Uncut k) (cut_fact m k x.volumes) x o i h.progress);
+    known = λ g. absurd (subst Cuts i.0 g);
+    fresh = fresh_length k (length (map (row_settled o) x.sets)) (length x.sets) (length-map x.sets (row_settled o)) h.fresh;
+  }
+  on_end (DropsSet n) x f i h = with_volumes m k (DropsSet n) x refl (λ u g. refl)
+      (λ v. each_map (λ a b. IsShown k v a → IsShown k v b) (λ a g. g) (dropped n) (shown-dropped n k v) x.volumes v (h.shown v)) h
+  on_end _ x f i h = absurd cc
 
-on_change : (k : Known) (s : Plan) (e : Event) (m : Mark) (st : State) (own : Progress k st.course.agenda (in_progress st)) → (c : Change) (x : State)
-    → is_cut c ≡ false → Comes s e m st x c → IsCut k x → IsCut k (apply x c)
-on_change k s e m st own (CourseIs c) x f i h = record {
-  shown = h.shown;
-  progress = subst (λ (d : Course). HoldsIn (Progress k) (Uncut k) (cut_fact k) (in_progress x) d.agenda d.outcome) (sym i.is)
-      (on_called (Progress k) (Uncut k) (cut_fact k) s st x
-      (λ g. subst (λ (y : State). Progress k y.course.agenda (in_progress y)) (sym g) own) i.call i.due i.stands h.progress);
-  fresh = h.fresh;
-}
-on_change k s e m st own (StartsSet r) x f i h = record {
-  shown = h.shown;
-  progress = inl (found_append k x.course.agenda x.sets r
-      (h.fresh r.number (newer (length x.sets) (length st.sets) r.number (ap length i.before) (ap (λ (q : SetRow). q.number) i.row)))
-      (subst (λ rows. Progress k x.course.agenda (find (λ q. is_running q.result) rows)) (sym i.before)
-      (subst (λ (c : Course). Progress k c.agenda (in_progress st)) (sym i.course) own)));
-  fresh = λ n l. h.fresh n (less (length x.sets) (length (x.sets ++ r ∷ [])) n (length_push x.sets r) l);
-} where
-  newer : (a b n : ℕ) → a ≡ b → n ≡ b + 1 → a < n
-  newer a b n e f = omega (arith, e, f)
+  module _ (no_cut : MakesNone Cut refl e st) (own : Progress m k st.volumes st.course.agenda (in_progress st)) where
+    on_change : (c : Change) (x : State) → is_cut c ≡ false → gives_image c ≡ false → ((u : ℕ) → m u ≡ true → rewrites u c ≡ false) → Comes s e mark st x c → IsCut m k x → IsCut m k (apply x c)
+    on_change (CourseIs c) x f g w i h = record {
+      shown = h.shown;
+      progress = subst (λ (d : Course). HoldsIn (Progress m k x.volumes) (Uncut k) (cut_fact m k x.volumes) (in_progress x) d.agenda d.outcome) (sym i.is)
+          (on_called (Progress m k x.volumes) (Uncut k) (cut_fact m k x.volumes) s e st x
+          (λ j. subst (λ (y : State). Progress m k y.volumes y.course.agenda (in_progress y)) (sym j) own) i.call i.due i.stands h.progress);
+      known = λ j. h.known (said_called Cut refl s e st x i.call 0 no_cut i.due i.stands (subst (λ (d : Course). Cuts d.agenda) i.is j));
+      fresh = h.fresh;
+    }
+    on_change (StartsSet r) x f g w i h = record {
+      shown = h.shown;
+      progress = inl (found_append m k x.volumes x.course.agenda x.sets r
+          (h.fresh r.number (newer (length x.sets) (length st.sets) r.number (ap length i.before) (ap (λ (q : SetRow). q.number) i.row)))
+          (subst (λ rows. Progress m k x.volumes x.course.agenda (find (λ q. is_running q.result) rows)) (sym i.before)
+          (subst (λ (c : Course). Progress m k x.volumes c.agenda (in_progress st)) (sym i.course)
+          (subst (λ hs. Progress m k hs st.course.agenda (in_progress st)) (sym i.volumes) own))));
+      known = λ j. absurd (subst Cuts (ap (λ (c : Course). c.agenda) i.course ∙ none_runs st.course.agenda i.goes.quiet) j);
+      fresh = λ n l. h.fresh n (less (length x.sets) (length (x.sets ++ r ∷ [])) n (length_push x.sets r) l);
+    } where
+      newer : (a b n : ℕ) → a ≡ b → n ≡ b + 1 → a < n
+      newer a b n e f = omega (arith, e, f)
 
-  less : (a b n : ℕ) → b ≡ a + 1 → b < n → a < n
-  less a b n e l = omega arith
-on_change k s e m st own (AddsVolume n v) x f i h = rows_change k (row_changed n (with_volume v)) (λ r. changed_number (r.number == n) (with_volume v) r refl)
-    (λ r. changed_result (r.number == n) (with_volume v) r refl) x h
-on_change k s e m st own (Writes v w) x f i h = with_volumes k _ x (all-change_at k (written w) v 0 x.volumes (λ u y a g. shown-written w k u y g) h.shown) h
-on_change k s e m st own (Reverts v n p) x f i h =
-    let r = i.0 in
-    let parts = kept_point r.set (row_of st r.set) (point_in r.set (history_of st v).images) r.image (λ q g. row_number r.set st.sets q g) r.kept in
-    with_volumes k _ x
-    (all-change_at k (reverted n p) v 0 x.volumes
-    (λ u y a g. shown-reverted k u n p y
-    (subst (λ j. point_in j y.images ≡ Some p) (sym (r.number ∙ parts.0))
-    (subst (λ o. point_in r.set (history_in o).images ≡ Some p) (ap (λ (z : State). slice_get z.volumes v) (sym i.2) ∙ a) (parts.1 ∙ ap Some (sym r.point)))) g)
-    h.shown)
-    h
-on_change k s e m st own (RevertsPart v blocks n p j) x f i h = with_volumes k _ x
-    (all-change_at k _ v 0 x.volumes (λ u y a g. shown-reverted_in_part blocks k u n p j y g) h.shown) h
-on_change k s e m st own (Drops n v) x f i h = with_volumes k _ x (all-change_at k (dropped n) v 0 x.volumes (λ u y a g. shown-dropped n k u y g) h.shown) h
-on_change k s e m st own (Evicts n group) x f i h = with_volumes k _ x (all-gone k n group 0 x.volumes h.shown) h
-on_change k s e m st own (Passes n) x f i h = record { shown = h.shown; progress = h.progress; fresh = h.fresh }
-on_change k s e m st own (Names ps) x f i h = record { shown = h.shown; progress = h.progress; fresh = h.fresh }
-on_change k s e m st own (CutsAt n now) x f i h = absurd cc
-on_change k s e m st own (Cuts n vs) x f i h = absurd cc
-on_change k s e m st own c x f i h = on_end k s e m st c x refl i h
+      less : (a b n : ℕ) → b ≡ a + 1 → b < n → a < n
+      less a b n e l = omega arith
+    on_change (AddsVolume n v) x f g w i h = rows_change m k (row_changed n (with_volume v)) (λ r. changed_number (r.number == n) (with_volume v) r refl)
+        (λ r. changed_result (r.number == n) (with_volume v) r refl) x h
+    on_change (Writes v a) x f g w i h = with_volumes m k (Writes v a) x g w
+        (λ u. each_change (λ b c. IsShown k u b → IsShown k u c) (λ b j. j) (written a) (shown-written a k u) v x.volumes u (h.shown u)) h
+    on_change (Reverts v n p) x f g w i h =
+        let r = i.0 in
+        let parts = kept_point r.set (row_of st r.set) (point_in r.set (history_of st v).images) r.image (λ q j. row_number r.set st.sets q j) r.kept in
+        let point : point_in n (at x.volumes v).images ≡ Some p
+        = subst (λ (y : State). point_in n (at y.volumes v).images ≡ Some p) (sym i.2)
+        (subst (λ j. point_in j (history_of st v).images ≡ Some p) (sym (r.number ∙ parts.0)) (parts.1 ∙ ap Some (sym r.point))) in
+        with_volumes m k (Reverts v n p) x g w
+        (λ u. at_change (IsShown k u) (reverted n p) v x.volumes u
+        (λ same j. shown-reverted k u n p (at x.volumes u) (subst (λ z. point_in n (at x.volumes z).images ≡ Some p) same point) j) (h.shown u)) h
+    on_change (RevertsPart v blocks n p j) x f g w i h = with_volumes m k (RevertsPart v blocks n p j) x g w
+        (λ u. each_change (λ b c. IsShown k u b → IsShown k u c) (λ b z. z) (reverted_in_part blocks n p j) (shown-reverted_in_part blocks k u n p j) v x.volumes u (h.shown u)) h
+    on_change (Drops n v) x f g w i h = with_volumes m k (Drops n v) x g w
+        (λ u. each_change (λ b c. IsShown k u b → IsShown k u c) (λ b j. j) (dropped n) (shown-dropped n k u) v x.volumes u (h.shown u)) h
+    on_change (Evicts n group) x f g w i h = with_volumes m k (Evicts n group) x g w
+        (λ u. each_gone (λ b c. IsShown k u b → IsShown k u c) (λ b j. j) n (λ b j. shown-filter (λ a. nat_lt n a.set) k u b.writes b.images j) group x.volumes u (h.shown u)) h
+    on_change (Passes n) x f g w i h = record { shown = h.shown; progress = h.progress; known = h.known; fresh = h.fresh }
+    on_change (Names ps) x f g w i h = record { shown = h.shown; progress = h.progress; known = h.known; fresh = h.fresh }
+    on_change (CutsAt n now) x f g w i h = absurd cc
+    on_change (Makes n v) x f g w i h = absurd cc
+    on_change c x f g w i h = on_end c x refl i h
 
 -- what is known after one more act
-abbrev pub or_else : Option (List History) → Option (List History) → Option (List History)
+abbrev pub or_else : Option State → Option State → Option State
 or_else None o = o
-or_else (Some hs) o = Some hs
+or_else (Some y) o = Some y
 
-abbrev pub now_if : Bool → List History → Option (List History)
-now_if true hs = Some hs
-now_if false hs = None
+abbrev pub now_if : Bool → State → Option State
+now_if true st = Some st
+now_if false st = None
 
 abbrev pub next_known : Known → State → Act → Known
-next_known k st act n = or_else (k n) (now_if (is_cut_of n st act) st.volumes)
+next_known k st act n = or_else (k n) (now_if (is_cut_of n st act) st)
 
 -- more is known, and as before where nothing more is
-know_more : (k l : Known) (st : State) → ((n : ℕ) → k n ≡ l n) → IsCut k st → IsCut l st
+know_more : (k l : Known) (st : State) → ((n : ℕ) → k n ≡ l n) → IsCut always k st → IsCut always l st
 know_more k l st same h = grind arith
 
-or_none : (o : Option (List History)) → o ≡ or_else o None
+or_none : (o : Option State) → o ≡ or_else o None
 or_none o = grind arith
 
 not_cut_now : (k : Known) (st : State) (act : Act) (n : ℕ) → (is_cut_of n st act ≡ false) → k n ≡ next_known k st act n
-not_cut_now k st act n e = or_none (k n) ∙ ap (λ b. or_else (k n) (now_if b st.volumes)) (sym e)
+not_cut_now k st act n e = or_none (k n) ∙ ap (λ b. or_else (k n) (now_if b st)) (sym e)
 
 -- the number of the set in progress is the newest
 pub newest_number : (m : ℕ) (rows : List SetRow) (r : SetRow) → NumberedFrom m rows → OverButNewest rows → find (λ q. is_running q.result) rows ≡ Some r → r.number + 1 ≡ m + length rows
@@ -261,89 +413,94 @@ newest_number m (q ∷ p ∷ rows) r h o e =
       shift : (a b : ℕ) → (a + 1) + b ≡ a + suc b
       shift a b = omega arith
 
--- ## the images of the cut
-
-shown_cut_if : (b : Bool) (k : Known) (v n : ℕ) (hs : List History) (x : History) → k n ≡ Some hs → writes_at hs v ≡ x.writes → IsShown k v x → (IsShown k v x → b ≡ true → IsShown k v (history_cut_if true n x)) → IsShown k v (history_cut_if b n x)
-shown_cut_if b k v n hs x e f h cuts = grind arith
-
--- k is what was known, l has the set that is cut now
-shown_cut_each : (k l : Known) (n : ℕ) (vs : List ℕ) (all : List History) (v : ℕ) (hs : List History) → ((m : ℕ) → n ≤ m → k m ≡ None) → ((m : ℕ) (xs : List History) → k m ≡ Some xs → l m ≡ Some xs) → l n ≡ Some all
-    → ((j : ℕ) → slice_get all (v + j) ≡ slice_get hs j) → AllShown k v hs → AllShown l v (cut_each n vs v hs)
-shown_cut_each k l n vs all v [] none more e at h = tt
-shown_cut_each k l n vs all v (x ∷ hs) none more e at h =
-    let shown : IsShown l v x = (all_along k l more v (x ∷ []) (h.0, tt)).0 in (
-      shown_cut_if (is_among v vs) l v n all x e (ap (λ o. (history_in o).writes) (ap (slice_get all) (plus_zero v) ∙ at 0)) shown
-          (λ g f. shown-cut l v n all x e (ap (λ o. (history_in o).writes) (ap (slice_get all) (plus_zero v) ∙ at 0)) (below-known k v n x none h.0) g),
-      shown_cut_each k l n vs all (v + 1) hs none more e (λ j. ap (slice_get all) (shift v j) ∙ at (suc j)) h.1,
-    ) where
-      plus_zero : (a : ℕ) → a ≡ a + 0
-      plus_zero a = omega arith
-
-      shift : (a b : ℕ) → (a + 1) + b ≡ a + suc b
-      shift a b = omega arith
-
--- ## what the Cut step says
-
-abbrev SaysCut : Option Agenda → Type 0
-SaysCut None = Unit {0}
-SaysCut (Some b) = (is_snapshot b.kind ≡ true) × (is_cut_made b.log ≡ true)
-
-says_worked : (now : ℕ) (c : Course) (a : Agenda) → c.agenda ≡ Some a → a.kind ≡ Snapshot → IsAtCut a → SaysCut (worked now c).agenda
-unfolding worked
-says_worked now c a e f g = grind (arith, common_steps, cut_is_open, list_any-append)
-
-says_settled : (c : Course) → SaysCut c.agenda → SaysCut (settled c).agenda
-unfolding settled
-says_settled c h = grind (arith, common_steps, nat_tests)
-
-says_posted : (before c : Course) → SaysCut c.agenda → SaysCut (posted before c).agenda
-unfolding posted
-says_posted before c h = h
-
-says_stepped : (now : ℕ) (c : Course) (a : Agenda) → c.agenda ≡ Some a → a.kind ≡ Snapshot → IsAtCut a → SaysCut (course_stepped true now c).agenda
-says_stepped now c a e f g = says_posted c _ (says_settled (worked now c) (says_worked now c a e f g))
-
 -- ## the state after the Cut step
 
 record IsNewest (k : Known) (st : State) (r : SetRow) : Type 0 where
   number : r.number ≡ length st.sets
   none : (m : ℕ) → r.number ≤ m → k m ≡ None
 
-progress_now : (k : Known) (st : State) → IsOrderly st → IsCut k st → Progress k st.course.agenda (in_progress st)
-progress_now k st o h = at_rest (Progress k) (Uncut k) (cut_fact k) st o h.progress
+pub progress_now : (k : Known) (st : State) → IsOrderly st → IsCut always k st → Progress always k st.volumes st.course.agenda (in_progress st)
+progress_now k st o h = at_rest (Progress always k st.volumes) (Uncut k) (cut_fact always k st.volumes) st o h.progress
 
-newest : (k : Known) (st : State) (r : SetRow) → CutsNow st → in_progress st ≡ Some r → IsOrderly st → IsCut k st → IsNewest k st r
-newest k st r c e o h = grind (arith, common_steps, newest_number, ltb-true, progress_now)
+number_newest : (st : State) (r : SetRow) → in_progress st ≡ Some r → IsOrderly st → r.number ≡ length st.sets
+number_newest st r e o = same r.number (length st.sets) (newest_number 1 st.sets r o.numbered o.newest e) where
+  same : (a b : ℕ) → a + 1 ≡ 1 + b → a ≡ b
+  same a b e = omega arith
 
-pub all_three : (a b c : Bool) → a ≡ true → b ≡ true → c ≡ true → (a && b && c) ≡ true
-all_three a b c e f g = grind arith
+newest : (k : Known) (st : State) (r : SetRow) → CutsNow st → in_progress st ≡ Some r → IsOrderly st → IsCut always k st → IsNewest k st r
+newest k st r c e o h =
+    let number = number_newest st r e o in
+    record {
+      number = number;
+      none = λ m l. by_cases m (cases_lt r.number m)
+          (uncut (k r.number) (subst (λ a. MadeIn always r.number st.volumes (k r.number) a) c.runs (subst (Progress always k st.volumes st.course.agenda) e (progress_now k st o h)))) l number;
+    } where
+      uncut : (y : Option State) → MadeIn always r.number st.volumes y (Some c.agenda) → y ≡ None
+      uncut None g = refl
+      uncut (Some y) g = absurd (true_not_false (is_cut_made c.agenda.log) g.cut c.at.cut)
 
-cut_now : (k : Known) (st : State) (act : Act) (r : SetRow) → is_provider act.event ≡ true → is_cut_group (open_group (left_now st)) ≡ true → in_progress st ≡ Some r → k r.number ≡ None → next_known k st act r.number ≡ Some st.volumes
+      by_cases : (m : ℕ) → (r.number < m) ⊎ (m ≤ r.number) → k r.number ≡ None → r.number ≤ m → r.number ≡ length st.sets → k m ≡ None
+      by_cases m (inl l) f i number = h.fresh m (subst (λ x. x < m) number l)
+      by_cases m (inr l) f i number = subst (λ x. k x ≡ None) (same r.number m i l) f where
+        same : (a b : ℕ) → a ≤ b → b ≤ a → a ≡ b
+        same a b e f = omega arith
+
+cut_now : (k : Known) (st : State) (act : Act) (r : SetRow) → is_provider act.event ≡ true → is_cut_group (open_group (left_now st)) ≡ true → in_progress st ≡ Some r → k r.number ≡ None → next_known k st act r.number ≡ Some st
 cut_now k st act r e f g h = grind arith
 
-known_stays : (k : Known) (st : State) (act : Act) (m : ℕ) (hs : List History) → k m ≡ Some hs → next_known k st act m ≡ Some hs
-known_stays k st act m hs e = ap (λ o. or_else o (now_if (is_cut_of m st act) st.volumes)) e
+known_stays : (k : Known) (st : State) (act : Act) (m : ℕ) (y : State) → k m ≡ Some y → next_known k st act m ≡ Some y
+known_stays k st act m y e = ap (λ o. or_else o (now_if (is_cut_of m st act) st)) e
 
 later_unknown : (k : Known) (st : State) (act : Act) (r : SetRow) (m : ℕ) → in_progress st ≡ Some r → r.number < m → k m ≡ None → next_known k st act m ≡ None
 later_unknown k st act r m e l f = grind arith
 
-cut_holds : (k : Known) (a : Agenda) (o : SetOutcome) (b : Option Agenda) (p : SetOutcome) (found : Option SetRow) → a.kind ≡ Snapshot → Moves (Some a) o b p
-    → SaysCut b → HoldsIn (Progress k) (Uncut k) (cut_fact k) found b p
-cut_holds k a o b p found e m h = grind (arith, common_steps, nat_tests)
+snapshot_over : (k : Kind) (o p : SetOutcome) → k ≡ Snapshot → EndsIn k o p → is_running p ≡ false
+snapshot_over k o p e m = grind (arith, common_steps)
+
+-- the agenda says the Cut now, or the set is over
+cut_holds : (l : Known) (n : ℕ) (y : State) (hs : List History) (a : Agenda) (o : SetOutcome) (b : Option Agenda) (p : SetOutcome) (found : Option SetRow) → l n ≡ Some y
+    → ((q : SetRow) → found ≡ Some q → q.number ≡ n) → a.kind ≡ Snapshot → Moves (Some a) o b p → ((x : Agenda) → b ≡ Some x → IsSince always n y x hs)
+    → HoldsIn (Progress always l hs) (Uncut l) (cut_fact always l hs) found b p
+cut_holds l n y hs a o None p found e f g m h = inr (refl, snapshot_over a.kind o p g m)
+cut_holds l n y hs a o (Some b) p None e f g m h = inl tt
+cut_holds l n y hs a o (Some b) p (Some q) e f g m h =
+    let same = f q refl in
+    inl (subst (λ z. MadeIn always q.number hs z (Some b)) (sym (ap l same ∙ e)) (subst (λ i. IsSince always i y b hs) (sym same) (h b refl)))
+
+-- an image of a set that was not cut
+no_image : (k : Known) (n v : ℕ) (h : History) → k n ≡ None → IsShown k v h → has_image n h ≡ false
+no_image k n v h e shown = by_point (point_in n h.images) refl where
+  by_point : (o : Option ℕ) → point_in n h.images ≡ o → is_some o ≡ false
+  by_point None f = refl
+  by_point (Some p) f = absurd (subst (λ y. ShownIn y v p h.writes) e (point_shown k v n p h.writes h.images f shown))
+
+-- where the Cut step is the next one
+cut_place : (a : Agenda) → a.kind ≡ Snapshot → IsAtCut a → (open_place (groups_left a) ≡ plain Cut) × (next_member (groups_left a) ≡ 0)
+cut_place a e c = grind (arith, common_steps, cut_is_open)
 
 on_cut : (k : Known) (act : Act) (st : State) (r : SetRow) → is_provider act.event ≡ true → is_cut_group (open_group (left_now st)) ≡ true → CutsNow st
-    → in_progress st ≡ Some r → IsOrderly st → IsCut k st
-    → IsCut (next_known k st act) (record (cut_set (Some r) st) { course = course_stepped true st.clock st.course })
+    → in_progress st ≡ Some r → IsOrderly st → IsCut always k st
+    → IsCut always (next_known k st act) (record (cut_set (Some r) st) { course = course_stepped true st.clock st.course })
 on_cut k act st r p g c e o h =
     let l = next_known k st act in
     let new = newest k st r c e o h in
     let d = course_stepped true st.clock st.course in
+    let uncut = new.none r.number (own r.number) in
+    let known = cut_now k st act r p g e uncut in
     let moves : Moves (Some c.agenda) st.course.outcome d.agenda d.outcome = subst (λ a. Moves a st.course.outcome d.agenda d.outcome) c.runs
     (moves_stepped true st.clock st.course (working_at_cut (left_now st) g)) in
+    let goes : Follows (Some c.agenda) st.course.members st.course.outcome d.agenda d.members d.outcome
+    = subst (λ a. Follows a st.course.members st.course.outcome d.agenda d.members d.outcome) c.runs (goes_stepped true st.clock st.course) in
+    let place = cut_place c.agenda c.kind c.at in
+    let says : SaysStep (plain Cut) 0 d.agenda = subst (λ q. SaysStep q 0 d.agenda) (ap (λ a. open_place (left a)) c.runs ∙ place.0)
+    (subst (λ w. SaysStep (open_place (left st.course.agenda)) w d.agenda) (ap (λ a. next_member (left a)) c.runs ∙ place.1) (says_stepped st.clock st.course)) in
+    let found = find-row_cut r.number st.clock st.sets ∙ ap (option_map (row_cut r.number st.clock)) e in
     record {
-      shown = shown_cut_each k l r.number r.volumes st.volumes 0 st.volumes new.none (known_stays k st act)
-          (cut_now k st act r p g e (new.none r.number (own r.number))) (λ j. ap (slice_get st.volumes) (zero_plus j)) h.shown;
-      progress = cut_holds l c.agenda st.course.outcome d.agenda d.outcome _ c.kind moves (says_stepped st.clock st.course c.agenda c.runs c.kind c.at);
+      shown = λ v. shown_along k l v _ _ (known_stays k st act) (h.shown v);
+      progress = cut_holds l r.number st st.volumes c.agenda st.course.outcome d.agenda d.outcome _ known
+          (λ q f. ap (λ (x : SetRow). x.number) (some_same _ _ (sym f ∙ found)) ∙ number-cut (r.number == r.number) st.clock r) c.kind moves
+          (λ b f. since b (subst (λ a. Follows (Some c.agenda) st.course.members st.course.outcome a d.members d.outcome) f goes) (subst (SaysStep (plain Cut) 0) f says) uncut);
+      known = λ i. subst (KnownNow l) (sym found) (ap is_some (ap l (number-cut (r.number == r.number) st.clock r) ∙ known));
       fresh = fresh_length l (length (map (row_cut r.number st.clock) st.sets)) (length st.sets) (length-map st.sets (row_cut r.number st.clock))
           (λ m i. later_unknown k st act r m e (along r.number (length st.sets) m new.number i) (h.fresh m i));
     }
@@ -351,111 +508,261 @@ on_cut k act st r p g c e o h =
     own : (a : ℕ) → a ≤ a
     own a = omega arith
 
-    zero_plus : (a : ℕ) → 0 + a ≡ a
-    zero_plus a = omega arith
-
     along : (a b m : ℕ) → a ≡ b → b < m → a < m
     along a b m e l = omega arith
+
+    since : (b : Agenda) → IsSameAgenda c.agenda b st.course.members (course_stepped true st.clock st.course).members st.course.outcome (course_stepped true st.clock st.course).outcome
+        → has_said b.log (plain Cut) 0 ≡ true → k r.number ≡ None → IsSince always r.number st b st.volumes
+    since b same says none = record {
+      snapshot = ap is_snapshot (same.kind ∙ c.kind);
+      cut = says;
+      volumes = same.volumes ∙ (tied_to c.agenda c.agenda.kind st.course.members (in_progress st) r c.kind e c.of_set).0 ∙ sym (ap volumes_of e);
+      still = λ u i j. refl;
+      none = λ u i. no_image k r.number u (at st.volumes u) none (h.shown u);
+    }
+
+-- ## the state after a Commit step
+
+-- the running agenda where a Commit step is the next one
+pub record CommitsNow (st : State) : Type 0 where
+  pub agenda : Agenda
+  pub runs : st.course.agenda ≡ Some agenda
+  pub here : IsAtCommit agenda
+  pub set : SetRow
+  pub is : in_progress st ≡ Some set
+  pub unreleased : has_said agenda.log (plain Release) (next_member (groups_left agenda)) ≡ false
+
+commits_in : (o : Option Agenda) (f : Option SetRow) (st : State) → st.course.agenda ≡ o → in_progress st ≡ f → is_commit (open_group (left o)) ≡ true → Tied o st.course.members f
+    → Running CommitsFirst o → CommitsNow st
+commits_in None f st e g h t first = absurd cc
+commits_in (Some a) None st e g h t first = absurd (no_set a.kind (at_commit a h).snapshot t) where
+  no_set : (k : Kind) → is_snapshot k ≡ true → IsOf k a.volumes a.members st.course.members None → ⊥
+  no_set k i j = grind arith
+commits_in (Some a) (Some r) st e g h t first =
+    let here = at_commit a h in
+    record { agenda = a; runs = e; here = here; set = r; is = g; unreleased = unsaid_before _ _ (first (next_member (groups_left a))) here.unsaid }
+
+pub commits : (s : Plan) (acts : List Act) → is_commit (open_group (left_now (state s acts))) ≡ true → CommitsNow (state s acts)
+commits s acts h = let st = state s acts in commits_in st.course.agenda (in_progress st) st refl refl h (tied s acts) (commits_first s acts)
+
+known_some : (o : Option State) → is_some o ≡ true → (y : State) × (o ≡ Some y)
+known_some None e = absurd cc
+known_some (Some y) e = (y, refl)
+
+in_set_of : (v : ℕ) (o : Option SetRow) → is_among v (volumes_of o) ≡ true → is_in_set v o ≡ true
+in_set_of v o e = grind arith
+
+abbrev SameWrites : History → History → Type 0
+SameWrites h k = k.writes ≡ h.writes
+
+on_image : (k : Known) (st : State) (c : CommitsNow st) → is_working (left_now st) ≡ true → IsOrderly st → IsCut always k st
+    → IsCut always k (record (image_made (Some c.set) (Some (next_member (left_now st))) st) { course = course_stepped true st.clock st.course })
+on_image k st c w o h =
+    let n = c.set.number in
+    let v = next_member (left_now st) in
+    let d = course_stepped true st.clock st.course in
+    let here : next_member (groups_left c.agenda) ≡ v = sym (ap (λ a. next_member (left a)) c.runs) in
+    let known : KnownNow k (Some c.set) = subst (KnownNow k) c.is (h.known (subst Cuts (sym c.runs) c.here.cut)) in
+    let y = known_some (k n) known in
+    let since : IsSince always n y.0 c.agenda st.volumes
+    = subst (λ z. MadeIn always n st.volumes z (Some c.agenda)) y.1
+    (subst (λ a. MadeIn always n st.volumes (k n) a) c.runs (subst (Progress always k st.volumes st.course.agenda) c.is (progress_now k st o h))) in
+    let among = subst (λ u. is_among u c.agenda.volumes ≡ true) here c.here.among in
+    let said : SaysStep (plain Commit) v d.agenda = subst (λ p. SaysStep p v d.agenda) (ap (λ a. open_place (left a)) c.runs ∙ c.here.place) (says_stepped st.clock st.course) in
+    record {
+      shown = λ u. at_change (IsShown k u) (history_cut n) v st.volumes u
+          (λ same. subst (λ i. IsShown k i (at st.volumes i) → IsShown k i (history_cut n (at st.volumes i))) same
+          (shown-cut k v n y.0 (at st.volumes v) y.1 (in_set_of v (in_progress y.0) (subst (λ vs. is_among v vs ≡ true) since.volumes among))
+          (since.still v among (subst (λ u. has_said c.agenda.log (plain Release) u ≡ false) here c.unreleased))
+          (λ m l. h.fresh m (subst (λ i. i < m) (number_newest st c.set c.is o) l))
+          (since.none v (subst (λ u. has_said c.agenda.log (plain Commit) u ≡ false) here c.here.unsaid)))) (h.shown u);
+      progress = volumes_made d.agenda d.outcome v n said
+          (moves_in (Progress always k st.volumes) (Uncut k) (cut_fact always k st.volumes) (in_progress st) st.course.agenda st.course.members st.course.outcome _ _ _
+          (moves_stepped true st.clock st.course w) (goes_stepped true st.clock st.course) h.progress);
+      known = λ i. subst (KnownNow k) (sym c.is) known;
+      fresh = h.fresh;
+    }
+  where
+    made : (v n : ℕ) (b : Agenda) → has_said b.log (plain Commit) v ≡ true → (m : ℕ) (y : State) → IsSince always m y b st.volumes
+        → IsSince always m y b (change_at v (history_cut n) st.volumes)
+    made v n b e m y g = record {
+      snapshot = g.snapshot;
+      cut = g.cut;
+      volumes = g.volumes;
+      still = λ u i. since_same true _ _ _ _ (λ t. each_change SameWrites (λ x. refl) (history_cut n) (λ x. refl) v st.volumes u) (g.still u i);
+      none = λ u i. at_change (λ x. has_image m x ≡ false) (history_cut n) v st.volumes u
+          (λ same j. absurd (true_not_false (has_said b.log (plain Commit) v) e (subst (λ z. has_said b.log (plain Commit) z ≡ false) (sym same) i))) (g.none u i);
+    }
+
+    volumes_made : (b : Option Agenda) (p : SetOutcome) (v n : ℕ) → SaysStep (plain Commit) v b
+        → HoldsIn (Progress always k st.volumes) (Uncut k) (cut_fact always k st.volumes) (in_progress st) b p
+        → HoldsIn (Progress always k (change_at v (history_cut n) st.volumes)) (Uncut k) (cut_fact always k (change_at v (history_cut n) st.volumes)) (in_progress st) b p
+    volumes_made b p v n e (inl g) = inl
+        (progress_along always always k st.volumes _ b (in_progress st) (λ m y a i j. made v n a (subst (SaysStep (plain Commit) v) i e) m y j) g)
+    volumes_made b p v n e (inr g) = inr g
 
 -- ## every act
 
 parts_not : (a b c : Bool) → (a && b) ≡ false → (a && b && c) ≡ false
 parts_not a b c e = grind arith
 
-on_act_if : (b : Bool) (s : Plan) (past : List Act) (act : Act) (k : Known) → (is_provider act.event && is_cut_group (open_group (left_now (state s past)))) ≡ b → IsCut k (state s past) → IsCut (next_known k (state s past) act) (after s (state s past) act)
-on_act_if false s past act k e h =
-    let st = state s past in
-    know_more k (next_known k st act) (after s st act)
-    (λ n. not_cut_now k st act n (parts_not (is_provider act.event) (is_cut_group (open_group (left_now st))) (is_set n (in_progress st)) e))
-    (by_changes (IsCut k) s st act
-    (λ c x i g. on_change k s act.event act.mark st (progress_now k st (orderly s past) h) c x (no_cut s act.event act.mark st x c e i) i g) h)
-on_act_if true s past act k e h =
-    let st = state s past in
-    let parts = both (is_provider act.event) (is_cut_group (open_group (left_now st))) e in
-    let c = cuts s past parts.1 in
-    let r = has_set st c in
-    let l = next_known k st act in
-    by_cut (IsCut l) s st act r.set parts.0 parts.1 r.is (on_end l s act.event act.mark st) (on_cut k act st r.set parts.0 parts.1 c r.is (orderly s past) h)
+not_open : (b : Bool) (os : List Open) → (b && is_cut_group (open_group os)) ≡ false → b ≡ true → same_place (open_place os) (plain Cut) ≡ false
+not_open b os e f = grind arith
 
-on_act : (s : Plan) (past : List Act) (act : Act) (k : Known) → IsCut k (state s past) → IsCut (next_known k (state s past) act) (after s (state s past) act)
-on_act s past act k h = on_act_if (is_provider act.event && is_cut_group (open_group (left_now (state s past)))) s past act k refl h
+module _ (s : Plan) (past : List Act) (act : Act) (k : Known) (h : IsCut always k (state s past)) where
+  -- an act that is no Cut step
+  as_before : (is_provider act.event && is_cut_group (open_group (left_now (state s past)))) ≡ false → IsCut always k (after s (state s past) act)
+      → IsCut always (next_known k (state s past) act) (after s (state s past) act)
+  as_before e g =
+      let st = state s past in
+      know_more k (next_known k st act) (after s st act)
+      (λ n. not_cut_now k st act n (parts_not (is_provider act.event) (is_cut_group (open_group (left_now st))) (is_set n (in_progress st)) e)) g
+
+  on_act_if : (a b : Bool) → (is_provider act.event && is_cut_group (open_group (left_now (state s past)))) ≡ a → (is_provider act.event && is_commit (open_group (left_now (state s past)))) ≡ b
+      → IsCut always (next_known k (state s past) act) (after s (state s past) act)
+  on_act_if true b e f =
+      let st = state s past in
+      let parts = both (is_provider act.event) (is_cut_group (open_group (left_now st))) e in
+      let c = cuts s past parts.1 in
+      let r = has_set st c in
+      let l = next_known k st act in
+      by_cut (IsCut always l) s st act r.set parts.0 parts.1 r.is (on_end always l s act.event act.mark st) (on_cut k act st r.set parts.0 parts.1 c r.is (orderly s past) h)
+  on_act_if false true e f =
+      let st = state s past in
+      let parts = both (is_provider act.event) (is_commit (open_group (left_now st))) f in
+      let c = commits s past parts.1 in
+      as_before e (by_image (IsCut always k) s st act c.set parts.0 parts.1 c.is (on_end always k s act.event act.mark st) (on_image k st c (working_at_commit (left_now st) parts.1) (orderly s past) h))
+  on_act_if false false e f =
+      let st = state s past in
+      let m = is_held st in
+      let held = to_act s past k h in
+      as_before e (to_rest m k (after s st act)
+      (by_changes (IsCut m k) s st act
+      (λ c x i g. on_change m k s act.event act.mark st (not_open (is_provider act.event) (left_now st) e) (at_rest (Progress m k st.volumes) (Uncut k) (cut_fact m k st.volumes) st (orderly s past) held.progress)
+      c x (no_cut s act.event act.mark st x c e i) (no_image_given s act.event act.mark st x c f i) (λ u j. held_unwritten s past act.event act.mark x u j c i) i g) held))
+
+  on_act : IsCut always (next_known k (state s past) act) (after s (state s past) act)
+  on_act = on_act_if (is_provider act.event && is_cut_group (open_group (left_now (state s past)))) (is_provider act.event && is_commit (open_group (left_now (state s past)))) refl refl
 
 -- ## every list of acts
 
-abbrev known_from : Plan → Known → State → List Act → Known
+abbrev pub known_from : Plan → Known → State → List Act → Known
 known_from s k st [] = k
 known_from s k st (act ∷ acts) = known_from s (next_known k st act) (after s st act) acts
 
-cut_fold : (s : Plan) (past : List Act) (k : Known) (acts : List Act) → IsCut k (state s past) → IsCut (known_from s k (state s past) acts) (fold (after s) (state s past) acts)
+cut_fold : (s : Plan) (past : List Act) (k : Known) (acts : List Act) → IsCut always k (state s past) → IsCut always (known_from s k (state s past) acts) (fold (after s) (state s past) acts)
 cut_fold s past k [] h = h
 cut_fold s past k (act ∷ acts) h =
     let l = next_known k (state s past) act in
-    subst (λ st. IsCut (known_from s l st acts) (fold (after s) st acts)) (state-append s past act)
-    (cut_fold s (past ++ act ∷ []) l acts (subst (IsCut l) (sym (state-append s past act)) (on_act s past act k h)))
+    subst (λ st. IsCut always (known_from s l st acts) (fold (after s) st acts)) (state-append s past act)
+    (cut_fold s (past ++ act ∷ []) l acts (subst (IsCut always l) (sym (state-append s past act)) (on_act s past act k h)))
 
-abbrev pub volumes_then : Plan → Option (List Act) → Option (List History)
-volumes_then s o = option_map (λ before. (state s before).volumes) o
+abbrev pub state_then : Plan → Option (List Act) → Option State
+state_then s o = option_map (state s) o
 
-known_step : (s : Plan) (o : Option (List History)) (b : Bool) (past : List Act) (later : Option (List Act)) → or_else (or_else o (now_if b (state s past).volumes)) (volumes_then s later) ≡ or_else o (volumes_then s (cut_if b past later))
+known_step : (s : Plan) (o : Option State) (b : Bool) (past : List Act) (later : Option (List Act)) → or_else (or_else o (now_if b (state s past))) (state_then s later) ≡ or_else o (state_then s (cut_if b past later))
 known_step s o b past later = grind arith
 
-known_is : (s : Plan) (past : List Act) (k : Known) (n : ℕ) (acts : List Act) → known_from s k (state s past) acts n ≡ or_else (k n) (volumes_then s (cut_from s n past (state s past) acts))
+known_is : (s : Plan) (past : List Act) (k : Known) (n : ℕ) (acts : List Act) → known_from s k (state s past) acts n ≡ or_else (k n) (state_then s (cut_from s n past (state s past) acts))
 known_is s past k n [] = or_none (k n)
 known_is s past k n (act ∷ acts) =
     let st = state s past in
     let l = next_known k st act in
-    subst (λ x. known_from s l x acts n ≡ or_else (l n) (volumes_then s (cut_from s n (past ++ act ∷ []) x acts))) (state-append s past act) (known_is s (past ++ act ∷ []) l n acts)
+    subst (λ x. known_from s l x acts n ≡ or_else (l n) (state_then s (cut_from s n (past ++ act ∷ []) x acts))) (state-append s past act) (known_is s (past ++ act ∷ []) l n acts)
     ∙ known_step s (k n) (is_cut_of n st act) past (cut_from s n (past ++ act ∷ []) (after s st act) acts)
 
-abbrev nothing_known : Known
-nothing_known n = None
+-- the state at each cut
+abbrev pub known : Plan → List Act → Known
+known s acts n = state_then s (cut s n acts)
 
-fresh_shown : (v : ℕ) (rows : List VolumeRow) → AllShown nothing_known v (map (λ _. fresh) rows)
-fresh_shown v [] = tt
-fresh_shown v (r ∷ rows) = (tt, fresh_shown (v + 1) rows)
+none_shown : (rows : List VolumeRow) (v : ℕ) → at (map (λ _. fresh) rows) v ≡ fresh
+none_shown [] v = refl
+none_shown (r ∷ rows) zero = refl
+none_shown (r ∷ rows) (suc v) = none_shown rows v
 
-cut_all : (s : Plan) (acts : List Act) → IsCut (known_from s nothing_known (start s) acts) (state s acts)
-cut_all s acts = cut_fold s [] nothing_known acts (record { shown = fresh_shown 0 s.volumes; progress = inl tt; fresh = λ n e. refl })
-
--- where the Cut step is the next one, the set in progress has no image yet
-pub uncut_at_cut : (s : Plan) (acts : List Act) (r : SetRow) (v p : ℕ) → CutsNow (state s acts) → in_progress (state s acts) ≡ Some r → point_in r.number (history_of (state s acts) v).images ≡ Some p → ⊥
-uncut_at_cut s acts r v p c e f =
-    let st = state s acts in
-    let k = known_from s nothing_known (start s) acts in
-    subst (λ o. ShownIn o v p (history_of st v).writes) ((newest k st r c e (orderly s acts) (cut_all s acts)).none r.number (own r.number))
-    (shown_at k 0 v v r.number p st.volumes (zero_plus v) (cut_all s acts).shown f) where
-      own : (a : ℕ) → a ≤ a
-      own a = omega arith
-
-      zero_plus : (a : ℕ) → a ≡ 0 + a
-      zero_plus a = omega arith
+pub cut_all : (s : Plan) (acts : List Act) → IsCut always (known s acts) (state s acts)
+cut_all s acts =
+    know_more _ (known s acts) (state s acts) (λ n. known_is s [] (λ m. None) n acts)
+    (cut_fold s [] (λ m. None) acts (record { shown = λ v. subst (IsShown (λ m. None) v) (sym (none_shown s.volumes v)) tt; progress = inl tt; known = λ e. absurd e; fresh = λ n e. refl }))
 
 -- where the Cut step is the next one, the set in progress was not cut yet
 pub not_cut_yet : (s : Plan) (acts : List Act) (r : SetRow) → CutsNow (state s acts) → in_progress (state s acts) ≡ Some r → cut s r.number acts ≡ None
-not_cut_yet s acts r c e =
-    let k = known_from s nothing_known (start s) acts in
-    none_then (cut s r.number acts) (sym (known_is s [] nothing_known r.number acts) ∙ (newest k (state s acts) r c e (orderly s acts) (cut_all s acts)).none r.number (own r.number))
-  where
-    own : (a : ℕ) → a ≤ a
-    own a = omega arith
+not_cut_yet s acts r c e = none_then (cut s r.number acts) ((newest (known s acts) (state s acts) r c e (orderly s acts) (cut_all s acts)).none r.number (own r.number)) where
+  own : (a : ℕ) → a ≤ a
+  own a = omega arith
 
-    none_then : (o : Option (List Act)) → volumes_then s o ≡ None → o ≡ None
-    none_then None f = refl
-    none_then (Some acts) f = absurd cc
+  none_then : (o : Option (List Act)) → state_then s o ≡ None → o ≡ None
+  none_then None f = refl
+  none_then (Some acts) f = absurd cc
 
-shown_by : (s : Plan) (v p : ℕ) (ws : List Write) (o : Option (List Act)) → ShownIn (volumes_then s o) v p ws → IsShownAt s v p ws o
+shown_now : (s : Plan) (acts : List Act) (n v p : ℕ) → point_in n (history_of (state s acts) v).images ≡ Some p → ShownIn (known s acts n) v p (history_of (state s acts) v).writes
+shown_now s acts n v p e = point_shown (known s acts) v n p _ _ e ((cut_all s acts).shown v)
+
+shown_by : (s : Plan) (v p : ℕ) (ws : List Write) (o : Option (List Act)) → ShownIn (state_then s o) v p ws → IsShownAt s v p ws o
 shown_by s v p ws o h = grind (arith, take-append_seam)
 
 -- an image shows its volume at its set's cut
 pub image_shown : (s : Plan) (acts : List Act) (n v p : ℕ) → point_in n (history_of (state s acts) v).images ≡ Some p → IsShownAt s v p (history_of (state s acts) v).writes (cut s n acts)
-image_shown s acts n v p e =
+image_shown s acts n v p e = shown_by s v p (history_of (state s acts) v).writes (cut s n acts) (shown_now s acts n v p e)
+
+-- and stands only on a volume that its set had there
+pub image_of_set : (s : Plan) (acts : List Act) (n v p : ℕ) (before : List Act) (r : SetRow) → point_in n (history_of (state s acts) v).images ≡ Some p → cut s n acts ≡ Some before
+    → in_progress (state s before) ≡ Some r → is_among v r.volumes ≡ true
+image_of_set s acts n v p before r e f g =
+    let shown : ShownIn (Some (state s before)) v p (history_of (state s acts) v).writes = subst (λ o. ShownIn (state_then s o) v p (history_of (state s acts) v).writes) f (shown_now s acts n v p e) in
+    subst (λ o. is_in_set v o ≡ true) g shown.0
+
+-- ## while a set is in progress
+
+-- an image of the set in progress stands only while its snapshot agenda runs, on a volume whose Commit step is made; until the volume is
+-- released its point is the end of the effective writes
+pub record IsWithImage (a : Agenda) (v p : ℕ) (ws : List Write) : Type 0 where
+  pub snapshot : is_snapshot a.kind ≡ true
+  pub cut : is_cut_made a.log ≡ true
+  pub among : is_among v a.volumes ≡ true
+  pub commit : has_said a.log (plain Commit) v ≡ true
+  pub still : has_said a.log (plain Release) v ≡ false → p ≡ length ws
+
+pub with_image : (s : Plan) (acts : List Act) (r : SetRow) (v p : ℕ) → in_progress (state s acts) ≡ Some r → point_in r.number (history_of (state s acts) v).images ≡ Some p
+    → (a : Agenda) × (((state s acts).course.agenda ≡ Some a) × IsWithImage a v p (history_of (state s acts) v).writes)
+with_image s acts r v p e f =
     let st = state s acts in
-    let k = known_from s nothing_known (start s) acts in
-    shown_by s v p (history_of st v).writes (cut s n acts)
-    (subst (λ o. ShownIn o v p (history_of st v).writes) (known_is s [] nothing_known n acts)
-    (shown_at k 0 v v n p st.volumes (zero_plus v) (cut_all s acts).shown e)) where
-      zero_plus : (a : ℕ) → a ≡ 0 + a
-      zero_plus a = omega arith
+    by_cases (known s acts r.number) st.course.agenda (shown_now s acts r.number v p f)
+    (subst (Progress always (known s acts) st.volumes st.course.agenda) e (progress_now (known s acts) st (orderly s acts) (cut_all s acts))) where
+      volume : (u : ℕ) (o : Option SetRow) → is_in_set u o ≡ true → is_among u (volumes_of o) ≡ true
+      volume u o g = grind arith
+
+      said : (b : Bool) (o : Option ℕ) → o ≡ Some p → (b ≡ false → is_some o ≡ false) → b ≡ true
+      said b o g h = grind arith
+
+      by_cases : (y : Option State) (a : Option Agenda) → ShownIn y v p (history_of (state s acts) v).writes → MadeIn always r.number (state s acts).volumes y a
+          → (b : Agenda) × ((a ≡ Some b) × IsWithImage b v p (history_of (state s acts) v).writes)
+      by_cases None a g h = absurd g
+      by_cases (Some y) None g h = absurd h
+      by_cases (Some y) (Some a) g h =
+          let among = subst (λ vs. is_among v vs ≡ true) (sym h.volumes) (volume v (in_progress y) g.0) in (
+            a,
+            (
+              refl,
+              record {
+                snapshot = h.snapshot;
+                cut = h.cut;
+                among = among;
+                commit = said (has_said a.log (plain Commit) v) (point_in r.number (history_of (state s acts) v).images) f (h.none v);
+                still = λ i. sym g.1 ∙ ap (λ (ws : List Write). length ws) (sym (h.still v among i));
+              },
+            ),
+          )
+
+-- a volume of the set in progress has no image of it before its Commit step
+pub no_image_yet : (s : Plan) (acts : List Act) (r : SetRow) (a : Agenda) (v : ℕ) → in_progress (state s acts) ≡ Some r → (state s acts).course.agenda ≡ Some a
+    → has_said a.log (plain Commit) v ≡ false → has_image r.number (history_of (state s acts) v) ≡ false
+no_image_yet s acts r a v e f g = by_point (point_in r.number (history_of (state s acts) v).images) refl where
+  by_point : (o : Option ℕ) → point_in r.number (history_of (state s acts) v).images ≡ o → is_some o ≡ false
+  by_point None h = refl
+  by_point (Some p) h =
+      let w = with_image s acts r v p e h in
+      absurd (true_not_false (has_said a.log (plain Commit) v) (subst (λ (x : Agenda). has_said x.log (plain Commit) v ≡ true) (some_same _ _ (sym w.1.0 ∙ f)) w.1.1.commit) g)
 
 -- ## where a set was cut
 
@@ -481,14 +788,8 @@ in_time : (k : Known) (v : ℕ) (ws : List Write) (images : List Image) → Show
 in_time k v ws [] h = tt
 in_time k v ws (i ∷ images) h = (no_greater (k i.set) v i.point ws h.0, later_of i images h.1, in_time k v ws images h.2)
 
-in_time_at : (k : Known) (u v : ℕ) (hs : List History) → AllShown k u hs → AreInTime (length (history_in (slice_get hs v)).writes) (history_in (slice_get hs v)).images
-in_time_at k u zero [] h = tt
-in_time_at k u (suc v) [] h = tt
-in_time_at k u zero (x ∷ hs) h = in_time k u x.writes x.images h.0
-in_time_at k u (suc v) (x ∷ hs) h = in_time_at k (u + 1) v hs h.1
-
 pub images_in_time : (s : Plan) (acts : List Act) (v : ℕ) → AreInTime (length (history_of (state s acts) v).writes) (history_of (state s acts) v).images
-images_in_time s acts v = in_time_at (known_from s nothing_known (start s) acts) 0 v (state s acts).volumes (cut_all s acts).shown
+images_in_time s acts v = in_time (known s acts) v _ _ ((cut_all s acts).shown v)
 
 -- ## what an image reads
 

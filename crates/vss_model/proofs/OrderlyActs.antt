@@ -1,20 +1,21 @@
 -- Every act keeps the state orderly.
 use Rattle.std.proofs.Common.{◌≡◌, ℕ, ◌+◌, ◌==◌, List, [], ◌∷◌, Option, Some, None, refl, Bool, true, false, map, ap, sym, subst, find, fold, inl, inr, length}
-use Rattle.std.specs.Prelude.{option_map, is_some, ◌⊎◌, not, if◌then◌else◌}
 use Rattle.std.proofs.Common.{arith}
+use Rattle.std.specs.Prelude.{option_map, is_some, ◌⊎◌, not, if◌then◌else◌}
 use Rattle.vss_model.proofs.Terms.{and_parts, common_steps, Context, Backup, AppRollback, NasRollback, Order, VssResult, AsyncCancelled, SetOutcome, Running}
-use Rattle.vss_model.proofs.Terms.{Failed as FailedSet, Said, Ok, Mark, History, fresh, dropped, after_set, Placed, gone_up_to, Group, Cut, Kind, Gather}
-use Rattle.vss_model.proofs.Terms.{Prepare, Snapshot, Complete, Member, Agenda, groups_left, left, all_say, is_done, is_working, is_among, open_group}
-use Rattle.vss_model.proofs.Terms.{next_member, Course, posted, failed as course_failed, outcome_after, settled_if, settled, begun, told}
-use Rattle.vss_model.proofs.Terms.{answered as course_answered, worked, stepped as course_stepped, timed as course_timed, released, Stage, Opened, Gathered}
-use Rattle.vss_model.proofs.Terms.{Started, Prepared, Done, Session, has_writers, makes_set, stage_after, agenda_ended, set_failed, is_stage, VolumeRow, Plan}
-use Rattle.vss_model.proofs.Terms.{State, SetRow, start, is_running, in_progress, row_changed, left_now, Ending, NothingEnds, AgendaEnds, SetFails}
-use Rattle.vss_model.proofs.Terms.{ending, row_settled, runs, has_no_volume, new_set, with_volume, with_cut, row_cut, cut_if, cut_each, is_flush}
-use Rattle.vss_model.proofs.Terms.{is_failed_step, Act, after, state, LetsGo, is_early, IsOfStage, IsOfSession, snapshot_stage, WaitsFor, IsAgendaOf}
-use Rattle.vss_model.proofs.Terms.{has_failed, is_live, AreLive, AllLive, IsOrderly, IsKeptFrom, from_answered, from_stepped, from_timed}
+use Rattle.vss_model.proofs.Terms.{Failed as FailedSet, Said, Ok, Mark, History, fresh, dropped, after_set, Placed, gone_up_to, Group, Cut, Commit, Kind}
+use Rattle.vss_model.proofs.Terms.{Gather, Prepare, Snapshot, Complete, Member, Agenda, groups_left, left, all_say, is_done, is_working, next_member, Course}
+use Rattle.vss_model.proofs.Terms.{posted, failed as course_failed, outcome_after, settled_if, settled, begun, told, answered as course_answered, worked}
+use Rattle.vss_model.proofs.Terms.{stepped as course_stepped, timed as course_timed, released, Stage, Opened, Gathered, Started, Prepared, Done, Session}
+use Rattle.vss_model.proofs.Terms.{has_writers, makes_set, stage_after, agenda_ended, set_failed, is_stage, VolumeRow, Plan, State, SetRow, start, is_running}
+use Rattle.vss_model.proofs.Terms.{in_progress, row_changed, left_now, Ending, NothingEnds, AgendaEnds, SetFails, ending, row_settled, runs, has_no_volume}
+use Rattle.vss_model.proofs.Terms.{new_set, with_volume, with_cut, row_cut, Act, after, state, LetsGo, is_early, IsOfStage, IsOfSession, snapshot_stage}
+use Rattle.vss_model.proofs.Terms.{WaitsFor, IsAgendaOf, has_failed, AreLive, AllLive, IsOrderly, IsKeptFrom, from_answered, from_stepped, from_timed}
 use Rattle.vss_names.specs.declared.set_outcome.SetOutcome.TheVariants.{Complete as CompleteSet}
 use Rattle.requestor.specs.declared.session_call.SessionCall.TheVariants as call
-use Rattle.vss_model.proofs.StateForm.{concluded, followed, failed_in, failed, begin_in, start_set, change_set, images_released, closed, answered, cut_set, step_made, stepped_as, stepped, ticked, later, IsKeptByChanges, IsKeptByWrites}
+use Rattle.write_history.specs.History.{cut as history_cut}
+use Rattle.vss_model.proofs.StateForm.{concluded, followed, failed_in, failed, begin_in, start_set, change_set, images_released, closed, answered, cut_set}
+use Rattle.vss_model.proofs.StateForm.{image_made, step_made, stepped_as, stepped, ticked, later, IsKeptByChanges, IsKeptByWrites}
 use Rattle.vss_model.proofs.Rows.{none_runs}
 use Rattle.vss_model.proofs.Rule.{on_after}
 use Rattle.vss_model.proofs.Orderly.{IsSameRow, numbered-map, newest-map, find-map, live-map, all_live_along, live-filter, live-append, all_live-map}
@@ -257,6 +258,9 @@ snapshot_allowed w s e = grind arith
 start_allowed : (w : Bool) (s : Stage) → (if w then is_stage s Gathered else is_stage s Opened) ≡ true → is_early s ≡ true
 start_allowed w s e = grind arith
 
+volumes_orderly : (hs : List History) (st : State) → AllLive st.sets hs → IsOrderly st → IsOrderly (record st { volumes = hs })
+volumes_orderly hs st live h = record { numbered = h.numbered; newest = h.newest; session = h.session; agenda = h.agenda; live = live }
+
 -- ## steps
 
 -- rows that keep number, running and failed
@@ -266,34 +270,32 @@ rows_same f same hs st live h = grind (arith, common_steps, numbered-map, newest
 pub same_changed : (n : ℕ) (f : SetRow → SetRow) → ((r : SetRow) → (f r).number ≡ r.number) → ((r : SetRow) → (f r).result ≡ r.result) → IsSameRow (row_changed n f)
 same_changed n f number result = grind arith
 
-live_cut_if : (b : Bool) (n : ℕ) (rows : List SetRow) (x : History) → is_live rows n ≡ true → AreLive rows x.images → AreLive rows (cut_if b n x).images
-live_cut_if b n rows x e h = grind (arith, live-append)
-
-live_cut_each : (n : ℕ) (vs : List ℕ) (v : ℕ) (rows : List SetRow) (hs : List History) → is_live rows n ≡ true → AllLive rows hs → AllLive rows (cut_each n vs v hs)
-live_cut_each n vs v rows [] e h = tt
-live_cut_each n vs v rows (x ∷ hs) e h = (live_cut_if (is_among v vs) n rows x e h.0, live_cut_each n vs (v + 1) rows hs e h.1)
-
 orderly_cut : (r : SetRow) (st : State) → in_progress st ≡ Some r → IsOrderly st → IsOrderly (cut_set (Some r) st)
 orderly_cut r st e h =
-    rows_same (row_cut r.number st.clock) (same_changed r.number (with_cut st.clock) (λ x. refl) (λ x. refl))
-    (cut_each r.number r.volumes 0 st.volumes) st
-    (live_cut_each r.number r.volumes 0 st.sets st.volumes (live_found st.sets r e) h.live) h
+    rows_same (row_cut r.number st.clock) (same_changed r.number (with_cut st.clock) (λ x. refl) (λ x. refl)) st.volumes st h.live h
 
 on_cut : (o : Option SetRow) (c : Course) (st : State) → in_progress st ≡ o → MovesOn st.course c → IsOrderly st → IsOrderly (followed (runs st) c (cut_set o st))
 on_cut None c st e m h = orderly_followed c st m h
 on_cut (Some r) c st e m h = orderly_followed c (cut_set (Some r) st) m (orderly_cut r st e h)
 
-on_step_made : (g : Option Group) (c : Course) (st : State) → MovesOn st.course c → IsOrderly st → IsOrderly (followed (runs st) c (step_made g st))
-on_step_made (Some Cut) c st m h = on_cut (in_progress st) c st refl m h
-on_step_made _ c st m h = orderly_followed c st m h
+on_made : (o : Option SetRow) (v : Option ℕ) (c : Course) (st : State) → in_progress st ≡ o → MovesOn st.course c → IsOrderly st → IsOrderly (followed (runs st) c (image_made o v st))
+on_made (Some r) (Some v) c st e m h =
+    orderly_followed c (image_made (Some r) (Some v) st) m
+    (volumes_orderly _ st (all_live-change_at (history_cut r.number) st.sets (λ x g. live-append st.sets x.images _ g (live_found st.sets r e)) v st.volumes h.live) h)
+on_made _ _ c st e m h = orderly_followed c st m h
 
-on_stepped_as : (fails : Bool) (g : Option Group) (st : State) → is_working (left_now st) ≡ true → IsOrderly st → IsOrderly (stepped_as fails g st)
-on_stepped_as true g st w h = orderly_followed _ st (moves_stepped false st.clock st.course w) h
-on_stepped_as false g st w h = on_step_made g _ st (moves_stepped true st.clock st.course w) h
+on_step_made : (g : Option Group) (v : Option ℕ) (c : Course) (st : State) → MovesOn st.course c → IsOrderly st → IsOrderly (followed (runs st) c (step_made g v st))
+on_step_made (Some Cut) v c st m h = on_cut (in_progress st) c st refl m h
+on_step_made (Some Commit) v c st m h = on_made (in_progress st) v c st refl m h
+on_step_made _ v c st m h = orderly_followed c st m h
+
+on_stepped_as : (fails : Bool) (g : Option Group) (v : Option ℕ) (st : State) → is_working (left_now st) ≡ true → IsOrderly st → IsOrderly (stepped_as fails g v st)
+on_stepped_as true g v st w h = orderly_followed _ st (moves_stepped false st.clock st.course w) h
+on_stepped_as false g v st w h = on_step_made g v _ st (moves_stepped true st.clock st.course w) h
 
 on_steps : (mark : Mark) (st : State) → is_working (left_now st) ≡ true → IsOrderly st → IsOrderly (stepped mark st)
 unfolding stepped
-on_steps mark st w h = on_stepped_as (is_failed_step (is_flush (open_group (left_now st))) mark) (open_group (left_now st)) st w h
+on_steps mark st w h = on_stepped_as _ _ _ st w h
 
 on_answers : (w : ℕ) (said : Said) (st : State) → IsOrderly st → IsOrderly (answered w said st)
 unfolding answered
@@ -324,9 +326,6 @@ unfolding course_failed
 none_after o why st e = grind (arith, find-settled_over)
 
 -- ## volumes and sessions
-
-volumes_orderly : (hs : List History) (st : State) → AllLive st.sets hs → IsOrderly st → IsOrderly (record st { volumes = hs })
-volumes_orderly hs st live h = record { numbered = h.numbered; newest = h.newest; session = h.session; agenda = h.agenda; live = live }
 
 gone_if : (b : Bool) (m : ℕ) (rows : List SetRow) (x : History) → AreLive rows x.images → AreLive rows (if b then record { writes = x.writes; images = after_set m x.images } else x).images
 gone_if b m rows x h = grind (arith, live-filter)

@@ -1,13 +1,16 @@
--- What the log of a running agenda says of who spoke: only volumes of the agenda were held, only its members froze, and once the Cut
--- step is made the Hold group is closed.
-use Rattle.std.proofs.Common.{◌≡◌, ℕ, ◌==◌, List, [], ◌∷◌, ◌++◌, Option, None, refl, Bool, true, false, map, filter, sym, ◌∙◌, arith}
+-- What the log of a running agenda says of who spoke: only volumes of the agenda were held, only its members froze, once the Cut step
+-- is made the Hold group is closed, and a volume is released after its Commit step.
+use Rattle.std.proofs.Common.{◌≡◌, ℕ, ◌==◌, List, [], ◌∷◌, ◌++◌, Option, None, refl, Bool, true, false, map, filter, sym, subst, ◌∙◌, arith}
 use Rattle.std.specs.Prelude.{◌&&◌, ◌||◌, not, if◌then◌else◌}
-use Rattle.vss_model.proofs.Terms.{list_any-append, and_parts, or_right, Level, Said, is_ok, Group, Hold, Cut, Member, Place, Agenda, Entry, Open, plain}
-use Rattle.vss_model.proofs.Terms.{places, group_code, level_code, same_place, is_freeze, has_said, has_frozen, members_of, waited_for, with_group, left_from}
-use Rattle.vss_model.proofs.Terms.{groups_left, open_group, open_place, is_among, waits_now, at_place, all_say, is_member, Plan, Act, state, is_cut_group}
+use Rattle.vss_model.proofs.Terms.{list_any-append, and_parts, eqb-true, or_right, Level, Said, is_ok, Group, Hold, Cut, Commit, Release, Member, Place, Agenda}
+use Rattle.vss_model.proofs.Terms.{Entry, Open, plain, places, group_code, level_code, same_place, is_freeze, has_said, has_frozen, members_of, waited_for}
+use Rattle.vss_model.proofs.Terms.{with_group, left_from, groups_left, open_group, open_place, is_among, waits_now, at_place, all_say, is_member, Plan, Act}
+use Rattle.vss_model.proofs.Terms.{state, is_cut_group}
+use Rattle.set_agenda.proofs.Closings.{unless}
 use Rattle.vss_model.proofs.Orderly.{true_not_false}
 use Rattle.vss_model.proofs.LogRule.{IsKeptInLog, Running, in_log}
 use Rattle.vss_model.proofs.CutLog.{is_cut_made, said_stays, either_way}
+use Rattle.vss_model.proofs.AtCut.{all_said}
 
 -- ## what is said at a place
 
@@ -44,6 +47,17 @@ among_filter test x (y ∷ xs) e = by_test (test y) e (among_filter test x xs) w
     head false b c e f = f e
   by_test false e ih = or_right (y == x) (is_among x xs) (ih e)
 
+pub filter_passes : (test : ℕ → Bool) (w : ℕ) (xs : List ℕ) → is_among w (filter test xs) ≡ true → test w ≡ true
+filter_passes test w [] e = absurd cc
+filter_passes test w (x ∷ xs) e = by_test (test x) refl e (filter_passes test w xs) where
+  by_head : (b : Bool) → (x == w) ≡ b → test x ≡ true → (b || is_among w (filter test xs)) ≡ true → (is_among w (filter test xs) ≡ true → test w ≡ true) → test w ≡ true
+  by_head true f g h ih = subst (λ y. test y ≡ true) (eqb-true x w f) g
+  by_head false f g h ih = ih h
+
+  by_test : (b : Bool) → test x ≡ b → is_among w (if b then x ∷ filter test xs else filter test xs) ≡ true → (is_among w (filter test xs) ≡ true → test w ≡ true) → test w ≡ true
+  by_test true g h ih = by_head (x == w) refl g h ih
+  by_test false g h ih = ih h
+
 -- the open place has the open group, and of its members those are waited for
 pub waits_members : (a : Agenda) (ps : List Place) (x : ℕ) → is_among x (waits_now (left_from a ps)) ≡ true → is_among x (members_of a (open_place (left_from a ps)).group (open_place (left_from a ps)).level) ≡ true
 waits_members a [] x e = absurd cc
@@ -53,6 +67,16 @@ waits_members a (p ∷ ps) x e = at_group (waited_for a p) (left_from a ps) (λ 
         → (is_among x (waits_now later) ≡ true → is_among x (members_of a (open_place later).group (open_place later).level) ≡ true)
         → is_among x (waits_now (with_group p ws later)) ≡ true
         → is_among x (members_of a (open_place (with_group p ws later)).group (open_place (with_group p ws later)).level) ≡ true
+    at_group [] later own ih e = ih e
+    at_group (w ∷ ws) later own ih e = own e
+
+-- nobody is waited for who has said something
+pub waits_unsaid : (a : Agenda) (ps : List Place) (x : ℕ) → is_among x (waits_now (left_from a ps)) ≡ true → has_said a.log (open_place (left_from a ps)) x ≡ false
+waits_unsaid a [] x e = absurd cc
+waits_unsaid a (p ∷ ps) x e = at_group (waited_for a p) (left_from a ps) (λ f. unless (has_said a.log p x) (filter_passes (λ who. not (has_said a.log p who)) x (members_of a p.group p.level) f)) (waits_unsaid a ps x) e
+  where
+    at_group : (ws : List ℕ) (later : List Open) → (is_among x ws ≡ true → has_said a.log p x ≡ false) → (is_among x (waits_now later) ≡ true → has_said a.log (open_place later) x ≡ false)
+        → is_among x (waits_now (with_group p ws later)) ≡ true → has_said a.log (open_place (with_group p ws later)) x ≡ false
     at_group [] later own ih e = ih e
     at_group (w ∷ ws) later own ih e = own e
 
@@ -152,6 +176,30 @@ holds_first = record {
   says = λ said now ws a waited mild h. holds_first_more said now ws a h;
 }
 
+-- ## the Commit group is closed before a Release step
+
+abbrev pub CommitsFirst : Agenda → Type 0
+CommitsFirst a = (v : ℕ) → has_said a.log (plain Release) v ≡ true → has_said a.log (plain Commit) v ≡ true
+
+closed_at_release : (a : Agenda) → same_place (open_place (groups_left a)) (plain Release) ≡ true → waited_for a (plain Commit) ≡ []
+closed_at_release a e = grind arith
+
+release_members : (g : Group) (k m : ℕ) (a : Agenda) (l : Option Level) (v : ℕ) → ((group_code g == group_code Release) && (k == m)) ≡ true → is_among v (members_of a g l) ≡ true → is_among v a.volumes ≡ true
+release_members g k m a l v e h = grind arith
+
+commits_before : IsKeptInLog CommitsFirst
+commits_before = record {
+  begins = λ k ms vs now v e. absurd cc;
+  says = λ said now ws a waited mild h v e.
+      let p = open_place (groups_left a) in
+      let new = map (at_place p said now) ws in
+      said_more a.log new (plain Release) v (has_said (a.log ++ new) (plain Commit) v) e (λ f. said_stays a.log new (plain Commit) v (h v f))
+      (λ f.
+      let parts = and_parts (same_place p (plain Release)) (is_among v ws) (new_said p (plain Release) said now v ws f) in
+      said_stays a.log new (plain Commit) v (all_said a.log (plain Commit) a.volumes v (closed_at_release a parts.0)
+      (release_members p.group (level_code p.level) (level_code None) a p.level v parts.0 (waits_members a (places a.kind) v (waited v parts.1)))));
+}
+
 -- ## in every state
 
 pub held_own : (s : Plan) (acts : List Act) → Running HoldsOwn (state s acts).course.agenda
@@ -159,6 +207,9 @@ held_own s acts = in_log HoldsOwn holds_own s acts
 
 pub frozen_own : (s : Plan) (acts : List Act) → Running FreezesOwn (state s acts).course.agenda
 frozen_own s acts = in_log FreezesOwn freezes_own s acts
+
+pub commits_first : (s : Plan) (acts : List Act) → Running CommitsFirst (state s acts).course.agenda
+commits_first s acts = in_log CommitsFirst commits_before s acts
 
 pub held_first : (s : Plan) (acts : List Act) → Running HoldsFirst (state s acts).course.agenda
 held_first s acts = in_log HoldsFirst holds_first s acts

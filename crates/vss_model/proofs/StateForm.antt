@@ -1,21 +1,23 @@
 -- The state after an act as one value, by cases, beside its reply: what the changes of the act come to, as the lemmas take it.
 -- That it is so is `after_is` of Changes.antt and `reply_is` of ByEvent.antt.
-use Rattle.std.specs.Prelude.{ℕ, ◌+◌, Bool, true, false, List, [], ◌∷◌, ◌++◌, length, map, is_some, nat_lt, ◌≡◌, ◌&&◌, if◌then◌else◌, Option, Some, None, option_map}
+use Rattle.std.specs.Prelude.{ℕ, ◌+◌, Bool, true, false, List, [], ◌∷◌, ◌++◌, length, map, is_some, nat_lt, ◌≡◌, ◌&&◌, if◌then◌else◌, Option, Some, None}
+use Rattle.std.specs.Prelude.{option_map}
 use Rattle.vss_model.proofs.Terms.{Context, Backup, AppRollback, NasRollback, VssResult, BadState, ObjectNotFound, ObjectAlreadyExists, UnsupportedContext}
 use Rattle.vss_model.proofs.Terms.{AsyncPending, AsyncCancelled, InsufficientStorage, payload_bytes, Mark, Clean, Fault, FaultAfter, History, Write}
-use Rattle.vss_model.proofs.Terms.{written as with_write, dropped, reverted, reverted_in_part, Said, said_of, Group, Cut, open_group, next_volume, is_working}
-use Rattle.vss_model.proofs.Terms.{Course, change_at, answered as course_answered, stepped as course_stepped, timed as course_timed, failed as course_failed}
-use Rattle.vss_model.proofs.Terms.{gathered, prepared, snapshot_begun, completing, released, Pair, Naming, IsNotFound, IsNotSelectable, IsNamedAlready, Names}
-use Rattle.vss_model.proofs.Terms.{naming, takers, Mode, Components, All, SessionCall, Verdict, Go, Blocked, Refused, check, Session, makes_set, context_of}
-use Rattle.vss_model.proofs.Terms.{opened as session_opened, started as session_started, agenda_ended, set_failed, Reads, ShowsImage, ShowsBlock, ShowsSets}
-use Rattle.vss_model.proofs.Terms.{ShowsProperties, DeletesSet, DeletesImage, Ticks, Calls, Op, Begin, Disable, Component, Document, Start, Add, Await, Status}
-use Rattle.vss_model.proofs.Terms.{Abort, End, line_of, Plan, token, blocks_of, Event, Line, Provider, Idle, Reply, Fine, Faulted, FaultedAfter, Numbered}
-use Rattle.vss_model.proofs.Terms.{Coded, NotSelectable, Deleted, StatusOf, Idled, State, SetRow, Kept, in_progress, row_changed, left_now, is_held, kept_image}
-use Rattle.vss_model.proofs.Terms.{is_kept_set, Ending, NothingEnds, AgendaEnds, SetFails, ending, row_settled, runs, reply_of_mark, cleared as cleared_volumes}
-use Rattle.vss_model.proofs.Terms.{set_loses_image, read_reply, block_reply, image_reply, query_reply, properties_reply, count_images, is_in_set}
-use Rattle.vss_model.proofs.Terms.{revert_refusal, is_disabled, known_metas, selected, new_number, new_set, with_volume, add_refusal, has_no_volume, volumes_of}
-use Rattle.vss_model.proofs.Terms.{await_reply, session_reply, cut_each, row_cut, is_flush, is_failed_step, Act, order_of_writer, idle_now, answer_reply}
-use Rattle.vss_model.proofs.Terms.{step_reply, LetsGo}
+use Rattle.vss_model.proofs.Terms.{written as with_write, dropped, reverted, reverted_in_part, Said, said_of, Group, Cut, Commit, open_group, next_volume}
+use Rattle.vss_model.proofs.Terms.{is_working, Course, change_at, answered as course_answered, stepped as course_stepped, timed as course_timed}
+use Rattle.vss_model.proofs.Terms.{failed as course_failed, gathered, prepared, snapshot_begun, completing, released, Pair, Naming, IsNotFound, IsNotSelectable}
+use Rattle.vss_model.proofs.Terms.{IsNamedAlready, Names, naming, takers, Mode, Components, All, SessionCall, Verdict, Go, Blocked, Refused, check, Session}
+use Rattle.vss_model.proofs.Terms.{makes_set, context_of, opened as session_opened, started as session_started, agenda_ended, set_failed, Reads, ShowsImage}
+use Rattle.vss_model.proofs.Terms.{ShowsBlock, ShowsSets, ShowsProperties, DeletesSet, DeletesImage, Ticks, Calls, Op, Begin, Disable, Component, Document}
+use Rattle.vss_model.proofs.Terms.{Start, Add, Await, Status, Abort, End, line_of, Plan, token, blocks_of, Event, Line, Provider, Idle, Reply, Fine, Faulted}
+use Rattle.vss_model.proofs.Terms.{FaultedAfter, Numbered, Coded, NotSelectable, Deleted, StatusOf, Idled, State, SetRow, Kept, in_progress, row_changed}
+use Rattle.vss_model.proofs.Terms.{left_now, is_held, kept_image, is_kept_set, Ending, NothingEnds, AgendaEnds, SetFails, ending, row_settled, runs}
+use Rattle.vss_model.proofs.Terms.{reply_of_mark, cleared as cleared_volumes, set_loses_image, read_reply, block_reply, image_reply, query_reply}
+use Rattle.vss_model.proofs.Terms.{properties_reply, count_images, is_in_set, revert_refusal, is_disabled, known_metas, selected, new_number, new_set}
+use Rattle.vss_model.proofs.Terms.{with_volume, add_refusal, has_no_volume, volumes_of, await_reply, session_reply, row_cut, is_flush, is_failed_step, Act}
+use Rattle.vss_model.proofs.Terms.{order_of_writer, idle_now, answer_reply, step_reply, LetsGo}
+use Rattle.write_history.specs.History.{cut as history_cut}
 use Rattle.requestor.specs.declared.session_call.SessionCall.TheVariants as call
 use Rattle.scenario.specs.declared.line.Line.{Line as Does}
 use Rattle.scenario.specs.declared.line.Line.TheVariants.{Writes, Reverts}
@@ -228,21 +230,23 @@ answered w said st = followed (runs st) (course_answered w said st.clock st.cour
 
 abbrev pub cut_set : Option SetRow → State → State
 cut_set None st = st
-cut_set (Some r) st = record st {
-  sets = map (row_cut r.number st.clock) st.sets;
-  volumes = cut_each r.number r.volumes 0 st.volumes;
-}
+cut_set (Some r) st = record st { sets = map (row_cut r.number st.clock) st.sets }
 
-abbrev pub step_made : Option Group → State → State
-step_made (Some Cut) st = cut_set (in_progress st) st
-step_made _ st = st
+abbrev pub image_made : Option SetRow → Option ℕ → State → State
+image_made (Some r) (Some v) st = record st { volumes = change_at v (history_cut r.number) st.volumes }
+image_made _ _ st = st
 
-abbrev pub stepped_as : Bool → Option Group → State → State
-stepped_as true g st = followed (runs st) (course_stepped false st.clock st.course) st
-stepped_as false g st = followed (runs st) (course_stepped true st.clock st.course) (step_made g st)
+abbrev pub step_made : Option Group → Option ℕ → State → State
+step_made (Some Cut) v st = cut_set (in_progress st) st
+step_made (Some Commit) v st = image_made (in_progress st) v st
+step_made _ v st = st
+
+abbrev pub stepped_as : Bool → Option Group → Option ℕ → State → State
+stepped_as true g v st = followed (runs st) (course_stepped false st.clock st.course) st
+stepped_as false g v st = followed (runs st) (course_stepped true st.clock st.course) (step_made g v st)
 
 unfoldable pub stepped : Mark → State → State
-stepped mark st = stepped_as (is_failed_step (is_flush (open_group (left_now st))) mark) (open_group (left_now st)) st
+stepped mark st = stepped_as (is_failed_step (is_flush (open_group (left_now st))) mark) (open_group (left_now st)) (next_volume (left_now st)) st
 
 abbrev pub later : ℕ → State → State
 later n st = record st { clock = st.clock + n }

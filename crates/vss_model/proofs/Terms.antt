@@ -56,9 +56,9 @@ pub use Rattle.vss_model.specs.Acts.{Act, answer_reply, changes, enabled, idle_n
 unfoldable pub use Rattle.vss_model.specs.Acts.{after}
 pub use Rattle.vss_model.specs.Causes.{freezes_writers, frozen_too_long, gives_cause, has_passed, held_too_long, holds_volumes, is_elsewhere, is_flush_step}
 pub use Rattle.vss_model.specs.Causes.{is_hold_step, is_late, is_late_at, is_late_in, last_of, line_gives_cause, owns, prepares_snapshot, unanswered_too_long}
-pub use Rattle.vss_model.specs.Changes.{AddsVolume, Change, CourseIs, Cuts, Drops, DropsSet, Evicts, IsCutAt, Passes, Reverts, RevertsPart, SessionIs, Settles}
-pub use Rattle.vss_model.specs.Changes.{StartsSet, Writes, adds, after_changes, answers, apply, begins, calls, closes, cuts, cuts_at, deletes, does_change}
-pub use Rattle.vss_model.specs.Changes.{drops, ends, event_changes, fails, goes_on, makes_room, names, next_step, opens_as, passes, puts, releases, reverts}
+pub use Rattle.vss_model.specs.Changes.{AddsVolume, Change, CourseIs, Drops, DropsSet, Evicts, IsCutAt, Makes, Passes, Reverts, RevertsPart, SessionIs, Settles}
+pub use Rattle.vss_model.specs.Changes.{StartsSet, Writes, adds, after_changes, answers, apply, begins, calls, closes, cuts, deletes, does_change}
+pub use Rattle.vss_model.specs.Changes.{drops, ends, event_changes, fails, goes_on, made_at, makes, makes_room, names, next_step, opens_as, passes, puts, releases, reverts}
 pub use Rattle.vss_model.specs.Changes.{session_calls, steps}
 pub use Rattle.vss_model.specs.Cut.{IsShownAt, cut, cut_from, is_cut_group, is_cut_of, is_provider, is_set}
 pub use Rattle.vss_model.specs.Effects.{ended_of, line_ticks, ticks_of}
@@ -77,7 +77,7 @@ pub use Rattle.vss_model.specs.Sessions.{has_no_volume, is_disabled, is_identify
 pub use Rattle.vss_model.specs.Sessions.{most_volumes, naming_reply, new_number, new_set, selected, selected_in, session_reply, volumes_of, with_volume}
 pub use Rattle.vss_model.specs.State.{Kept, SetRow, State, has_image, history_in, history_of, in_progress, is_frozen, is_held, is_kept_set, is_running}
 pub use Rattle.vss_model.specs.State.{kept_image, kept_of, left_now, row_changed, row_of, start}
-pub use Rattle.vss_model.specs.Steps.{cut_each, cut_if, is_failed_step, is_flush, row_cut, with_cut}
+pub use Rattle.vss_model.specs.Steps.{is_failed_step, is_flush, row_cut, with_cut}
 pub use Rattle.vss_model.specs.Trail.{Run, act_of, acts, acts_from, acts_if, after_event, allows, answer_event, begin, can_act, cursor, event_enabled, event_of}
 pub use Rattle.vss_model.specs.Trail.{faults, is_complete, is_fault, is_lane, is_legal, is_legal_from, is_legal_move, is_over, is_used_up, line_event, may_move}
 pub use Rattle.vss_model.specs.Trail.{moved, next_line, none_can_act, run, run_from, script_event}

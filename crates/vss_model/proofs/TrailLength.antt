@@ -1,5 +1,6 @@
 -- Each legal move takes a turn, so a legal trail is short.
-use Rattle.std.proofs.Common.{◌≡◌, ℕ, zero, suc, ◌+◌, ◌*◌, ◌<◌, ◌≤◌, List, [], ◌∷◌, ◌++◌, Option, Some, None, refl, Bool, true, false, ap, sym, ◌∙◌, subst, map, length, drop, cond, arith}
+use Rattle.std.proofs.Common.{◌≡◌, ℕ, zero, suc, ◌+◌, ◌*◌, ◌<◌, ◌≤◌, List, [], ◌∷◌, ◌++◌, Option, Some, None, refl, Bool, true, false, ap, sym, ◌∙◌, subst, map}
+use Rattle.std.proofs.Common.{length, drop, cond, arith}
 use Rattle.std.specs.Prelude.{not, slice_get, sum}
 use Rattle.vss_model.proofs.Terms.{common_steps, nat_tests, sum_by-cons, and_parts, eq-eqb, VssResult, AsyncCancelled, Actor, Lane, Writer, Advance, Mark, Move}
 use Rattle.vss_model.proofs.Terms.{Write, said_of, Said, Group, is_among, is_working, Course, answered as course_answered, stepped as course_stepped}
@@ -12,7 +13,8 @@ use Rattle.vss_model.proofs.Terms.{is_legal_from, is_legal, waiting, turns_of_ag
 use Rattle.write_history.specs.declared.actor.Actor.TheVariants.{Idle}
 use Rattle.set_agenda.specs.declared.kind.Kind.TheVariants as kind
 use Rattle.scenario.specs.declared.op.Op.TheVariants.{Prepare, Snapshot}
-use Rattle.vss_model.proofs.StateForm.{concluded, followed, failed_in, failed, Replied, write, reverted_as, closed, end_session, answered, step_made, stepped_as, stepped, ticked, later}
+use Rattle.vss_model.proofs.StateForm.{concluded, followed, failed_in, failed, Replied, write, reverted_as, closed, end_session, answered, step_made}
+use Rattle.vss_model.proofs.StateForm.{stepped_as, stepped, ticked, later}
 use Rattle.vss_model.proofs.Appending.{state-append, run-append, state-run, is_legal-append}
 use Rattle.vss_model.proofs.ByEvent.{Covers, covered, by_if}
 use Rattle.vss_model.proofs.Changes.{after_enabled}
@@ -39,16 +41,13 @@ less_answers : (w : ℕ) (said : Said) (st : State) → waits_in (course_answere
 unfolding answered
 less_answers w said st h = subst (λ n. n < waits_at st) (sym (same_followed (runs st) _ st)) h
 
-same_made : (ran ok : Bool) (g : Option Group) (st : State) → waits_at (followed ran (course_stepped ok st.clock st.course) (step_made g st)) ≡ waits_in (course_stepped ok st.clock st.course)
-same_made ran ok g st = same_followed ran (course_stepped ok st.clock st.course) (step_made g st)
-
-less_stepped_as : (fails : Bool) (g : Option Group) (st : State) → is_working (left_now st) ≡ true → waits_at (stepped_as fails g st) < waits_at st
-less_stepped_as true g st e = subst (λ n. n < waits_at st) (sym (same_followed (runs st) (course_stepped false st.clock st.course) st)) (less_stepped false st.clock st.course e)
-less_stepped_as false g st e = subst (λ n. n < waits_at st) (sym (same_made (runs st) true g st)) (less_stepped true st.clock st.course e)
+less_stepped_as : (fails : Bool) (g : Option Group) (v : Option ℕ) (st : State) → is_working (left_now st) ≡ true → waits_at (stepped_as fails g v st) < waits_at st
+less_stepped_as true g v st e = subst (λ n. n < waits_at st) (sym (same_followed (runs st) (course_stepped false st.clock st.course) st)) (less_stepped false st.clock st.course e)
+less_stepped_as false g v st e = subst (λ n. n < waits_at st) (sym (same_followed (runs st) (course_stepped true st.clock st.course) (step_made g v st))) (less_stepped true st.clock st.course e)
 
 less_steps : (mark : Mark) (st : State) → is_working (left_now st) ≡ true → waits_at (stepped mark st) < waits_at st
 unfolding stepped
-less_steps mark st e = less_stepped_as _ _ st e
+less_steps mark st e = less_stepped_as _ _ _ st e
 
 same_ticked : (n : ℕ) (st : State) → waits_at (ticked n st) ≡ waits_in (course_timed (st.clock + n) st.course)
 unfolding ticked

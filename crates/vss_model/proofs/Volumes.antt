@@ -1,9 +1,8 @@
 -- What a change of the volumes does to the history at each place, and that most changes leave fewer images.
-use Rattle.std.proofs.Common.{◌≡◌, ℕ, ◌+◌, ◌==◌, ◌≤◌, zero, suc, List, [], ◌∷◌, Some, refl, Bool, true, false, map, filter, length, ap, arith}
+use Rattle.std.proofs.Common.{◌≡◌, ℕ, ◌==◌, ◌≤◌, zero, suc, List, [], ◌∷◌, Some, refl, Bool, true, false, map, filter, length, ap, arith}
 use Rattle.std.specs.Prelude.{is_some, not, if◌then◌else◌, nat_lt, slice_get}
 use Rattle.vss_model.proofs.Terms.{nat_tests, common_steps, Write, Image, History, fresh, point_in, dropped, written, reverted, reverted_in_part, after_set}
-use Rattle.vss_model.proofs.Terms.{Placed, gone_up_to, is_among, change_at, history_in, has_image, cut_if, cut_each}
-use Rattle.write_history.specs.History.{cut as history_cut}
+use Rattle.vss_model.proofs.Terms.{without_set, Placed, gone_up_to, change_at, history_in, has_image}
 
 -- ## at each place
 
@@ -36,14 +35,6 @@ module _ (R : History → History → Type 0) (same : (h : History) → R h h) w
   each_gone m g (p ∷ ps) (x ∷ hs) zero = gone_here p.within m x (g x)
   each_gone m g (p ∷ ps) (x ∷ hs) (suc v) = each_gone m g ps hs v
 
-  cut_here : (b : Bool) (n : ℕ) (x : History) → R x (history_cut n x) → R x (cut_if b n x)
-  cut_here b n x h = grind arith
-
-  pub each_cut : (n : ℕ) → ((h : History) → R h (history_cut n h)) → (vs : List ℕ) (u : ℕ) (hs : List History) → Each R hs (cut_each n vs u hs)
-  each_cut n g vs u [] v = same (at [] v)
-  each_cut n g vs u (x ∷ hs) zero = cut_here (is_among u vs) n x (g x)
-  each_cut n g vs u (x ∷ hs) (suc v) = each_cut n g vs (u + 1) hs v
-
 -- a change at another place
 pub change_other : (f : History → History) (u : ℕ) (hs : List History) (v : ℕ) → (u == v) ≡ false → at (change_at u f hs) v ≡ at hs v
 change_other f u [] v e = refl
@@ -54,12 +45,21 @@ change_other f (suc u) (x ∷ hs) (suc v) e = change_other f u hs v (one_less u 
   one_less : (a b : ℕ) → (suc a == suc b) ≡ false → (a == b) ≡ false
   one_less a b e = grind arith
 
+-- what is kept at the place of a change is kept everywhere
+pub at_change : (P : History → Type 0) (f : History → History) (u : ℕ) (hs : List History) (v : ℕ) → (u ≡ v → P (at hs v) → P (f (at hs v))) → P (at hs v) → P (at (change_at u f hs) v)
+at_change P f u [] v keep h = h
+at_change P f zero (x ∷ hs) zero keep h = keep refl h
+at_change P f zero (x ∷ hs) (suc v) keep h = h
+at_change P f (suc u) (x ∷ hs) zero keep h = h
+at_change P f (suc u) (x ∷ hs) (suc v) keep h = at_change P f u hs v (λ e. keep (ap (λ n. suc n) e)) h
+
 -- ## fewer images
 
 -- no image of another set, and no more of them
 pub record Fewer (h k : History) : Type 0 where
   pub sets : (n : ℕ) → has_image n k ≡ true → has_image n h ≡ true
   pub count : length k.images ≤ length h.images
+  pub others : (n : ℕ) → length (without_set n k.images) ≤ length (without_set n h.images)
 
 pub fewer_same : (h : History) → Fewer h h
 fewer_same h = grind arith
@@ -83,14 +83,18 @@ count_filter : (test : Image → Bool) (images : List Image) → length (filter 
 count_filter test [] = omega arith
 count_filter test (i ∷ images) = let ih = count_filter test images in grind (arith, common_steps)
 
+count_others : (test : Image → Bool) (n : ℕ) (images : List Image) → length (without_set n (filter test images)) ≤ length (without_set n images)
+count_others test n [] = omega arith
+count_others test n (i ∷ images) = let ih = count_others test n images in grind (arith, common_steps)
+
 fewer_filter : (test : Image → Bool) (h : History) (ws : List Write) → Fewer h (record { writes = ws; images = filter test h.images })
-fewer_filter test h ws = record { sets = λ n e. sets_filter test h.images n e; count = count_filter test h.images }
+fewer_filter test h ws = record { sets = λ n e. sets_filter test h.images n e; count = count_filter test h.images; others = λ n. count_others test n h.images }
 
 pub fewer_dropped : (n : ℕ) (h : History) → Fewer h (dropped n h)
 fewer_dropped n h = fewer_filter (λ i. not (i.set == n)) h h.writes
 
 pub fewer_written : (w : Write) (h : History) → Fewer h (written w h)
-fewer_written w h = record { sets = λ n e. e; count = (fewer_same h).count }
+fewer_written w h = record { sets = λ n e. e; count = (fewer_same h).count; others = (fewer_same h).others }
 
 pub fewer_reverted : (n p : ℕ) (h : History) → Fewer h (reverted n p h)
 fewer_reverted n p h = fewer_filter (λ i. not (nat_lt n i.set)) h _
@@ -115,10 +119,6 @@ pub as_many_gone : (m : ℕ) (ps : List Placed) (hs : List History) → length (
 as_many_gone m [] hs = refl
 as_many_gone m (p ∷ ps) [] = refl
 as_many_gone m (p ∷ ps) (x ∷ hs) = ap (λ n. suc n) (as_many_gone m ps hs)
-
-pub as_many_cut : (n : ℕ) (vs : List ℕ) (u : ℕ) (hs : List History) → length (cut_each n vs u hs) ≡ length hs
-as_many_cut n vs u [] = refl
-as_many_cut n vs u (x ∷ hs) = ap (λ k. suc k) (as_many_cut n vs (u + 1) hs)
 
 -- as many volumes, each with fewer images
 pub record FewerIn (hs ks : List History) : Type 0 where

@@ -1,6 +1,6 @@
 -- A running agenda waits for somebody: for the provider's step, or for a writer's answer; and where it waits for an answer
 -- a limit runs, which an idle stretch spends.
-use Rattle.std.proofs.Common.{◌≡◌, ℕ, ◌+◌, ◌-◌, List, [], ◌∷◌, Option, Some, None, Bool, true, false, arith}
+use Rattle.std.proofs.Common.{◌≡◌, ℕ, ◌+◌, List, [], ◌∷◌, Option, Some, None, Bool, true, false, arith}
 use Rattle.std.specs.Prelude.{◌⊎◌, is_some}
 use Rattle.vss_model.proofs.Terms.{nat_tests, common_steps, VssResult, Said, Kind, Member, Place, Agenda, Open, with_group, waited_for, left_from, groups_left}
 use Rattle.vss_model.proofs.Terms.{is_among, open_order, is_asking, is_working, next_member, is_done, running_at, spent_of, ticks_to_spend, Course, posted}

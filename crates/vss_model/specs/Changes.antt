@@ -11,13 +11,13 @@ use Rattle.vss_names.specs.declared.vss_result.VssResult.TheVariants.{AsyncCance
 use Rattle.block_data.specs.PayloadBytes.{payload_bytes}
 use Rattle.write_history.specs.declared.mark.Mark.{Mark}
 use Rattle.write_history.specs.declared.mark.Mark.TheVariants.{Clean, Fault, FaultAfter}
-use Rattle.write_history.specs.History.{Write, written, dropped, reverted, reverted_in_part}
+use Rattle.write_history.specs.History.{Write, written, cut as history_cut, dropped, reverted, reverted_in_part}
 use Rattle.write_history.specs.Slots.{Placed, gone_up_to}
 use Rattle.writer_state.specs.declared.said.Said.{Said}
 use Rattle.writer_calls.specs.Script.{said_of}
 use Rattle.set_agenda.specs.declared.group.Group.{Group}
-use Rattle.set_agenda.specs.declared.group.Group.TheVariants.{Cut}
-use Rattle.set_agenda.specs.Agenda.{open_group}
+use Rattle.set_agenda.specs.declared.group.Group.TheVariants.{Cut, Commit}
+use Rattle.set_agenda.specs.Agenda.{open_group, next_volume}
 use Rattle.set_agenda.specs.Course.{Course, idle_ticks, change_at, answered as course_answered, stepped as course_stepped, timed, failed as course_failed, gathered, prepared, snapshot_begun, completing, released}
 use Rattle.requestor.specs.Session.{Session, context_of, opened, started, agenda_ended, set_failed}
 use Rattle.component_doc.specs.Selection.{Pair, Naming, IsNotFound, IsNotSelectable, IsNamedAlready, Names as NamesNow, naming, takers}
@@ -33,7 +33,7 @@ use Rattle.vss_model.specs.State.{State, SetRow, Kept, in_progress, row_changed,
 use Rattle.vss_model.specs.Ending.{Ending, NothingEnds, AgendaEnds, SetFails, ending, row_settled, runs}
 use Rattle.vss_model.specs.Images.{going_up_to, cleared, set_loses_image}
 use Rattle.vss_model.specs.Sessions.{is_disabled, known_metas, selected, new_number, new_set, with_volume, volumes_of}
-use Rattle.vss_model.specs.Steps.{cut_each, row_cut, is_flush, is_failed_step}
+use Rattle.vss_model.specs.Steps.{row_cut, is_flush, is_failed_step}
 
 pub data Change : Type 0 where
   -- so many ticks go by (this project's own)
@@ -54,8 +54,8 @@ pub data Change : Type 0 where
   CourseIs : Course → Change
   -- a volume gets an effective write (this project's own)
   Writes : ℕ → Write → Change
-  -- these volumes get their images of a set
-  Cuts : ℕ → List ℕ → Change
+  -- a volume gets its image of a set
+  Makes : ℕ → ℕ → Change
   -- a volume reads again as its image of this set, with this point, and newer images go (RevertToSnapshot)
   Reverts : ℕ → ℕ → ℕ → Change
   -- a device failed in that: of so many blocks only the first few that differ were restored (this project's own)
@@ -77,7 +77,7 @@ apply st (IsCutAt n now) = record st { sets = map (row_cut n now) st.sets }
 apply st (Settles o) = record st { sets = map (row_settled o) st.sets }
 apply st (CourseIs c) = record st { course = c }
 apply st (Writes v w) = record st { volumes = change_at v (written w) st.volumes }
-apply st (Cuts n vs) = record st { volumes = cut_each n vs 0 st.volumes }
+apply st (Makes n v) = record st { volumes = change_at v (history_cut n) st.volumes }
 apply st (Reverts v n p) = record st { volumes = change_at v (reverted n p) st.volumes }
 apply st (RevertsPart v blocks n p k) = record st { volumes = change_at v (reverted_in_part blocks n p k) st.volumes }
 apply st (DropsSet n) = record st { volumes = map (dropped n) st.volumes }
@@ -195,22 +195,28 @@ does_change s lane o (does.Ticks n) mark st = passes n st
 does_change s lane o (does.Calls c) mark st = session_calls s lane o st.session st
 does_change s lane o _ mark st = []
 
--- all volumes of the set get their images in the one Cut step
+-- the one Cut step of a set
 abbrev pub cuts : Option SetRow → ℕ → List Change
 cuts None now = []
-cuts (Some r) now = IsCutAt r.number now ∷ Cuts r.number r.volumes ∷ []
+cuts (Some r) now = IsCutAt r.number now ∷ []
 
-abbrev pub cuts_at : Option Group → State → List Change
-cuts_at (Some Cut) st = cuts (in_progress st) st.clock
-cuts_at _ st = []
+-- a volume gets its image in its Commit step
+abbrev pub makes : Option SetRow → Option ℕ → List Change
+makes (Some r) (Some v) = Makes r.number v ∷ []
+makes _ _ = []
 
-abbrev pub steps : Bool → Option Group → State → List Change
-steps true g st = goes_on (runs st) (course_stepped false st.clock st.course) st
-steps false g st = cuts_at g st ++ goes_on (runs st) (course_stepped true st.clock st.course) st
+abbrev pub made_at : Option Group → Option ℕ → State → List Change
+made_at (Some Cut) v st = cuts (in_progress st) st.clock
+made_at (Some Commit) v st = makes (in_progress st) v
+made_at _ v st = []
+
+abbrev pub steps : Bool → Option Group → Option ℕ → State → List Change
+steps true g v st = goes_on (runs st) (course_stepped false st.clock st.course) st
+steps false g v st = made_at g v st ++ goes_on (runs st) (course_stepped true st.clock st.course) st
 
 -- the provider's next step
 abbrev pub next_step : Mark → State → List Change
-next_step mark st = let g = open_group (left_now st) in steps (is_failed_step (is_flush g) mark) g st
+next_step mark st = let g = open_group (left_now st) in steps (is_failed_step (is_flush g) mark) g (next_volume (left_now st)) st
 
 abbrev pub answers : ℕ → Said → State → List Change
 answers w said st = goes_on (runs st) (course_answered w said st.clock st.course) st

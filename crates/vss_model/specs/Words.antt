@@ -38,7 +38,7 @@ pub use Rattle.set_agenda.specs.declared.member.Member.{Member}
 pub use Rattle.set_agenda.specs.declared.place.Place.{Place}
 pub use Rattle.vss_model.specs.Acts.{Act, after, allows_by, enabled, event_allows, idle_now, is_free, line_allows, line_enabled, may_do, may_stop_after, may_write, reply}
 pub use Rattle.vss_model.specs.Acts.{restorable, state}
-pub use Rattle.vss_model.specs.Changes.{Change, after_changes, cuts_at, fails, goes_on, passes, session_calls, steps}
+pub use Rattle.vss_model.specs.Changes.{Change, after_changes, fails, goes_on, made_at, passes, session_calls, steps}
 pub use Rattle.vss_model.specs.Cut.{is_cut_group}
 pub use Rattle.vss_model.specs.Effects.{ended_of, evicted, evicted_at, evicted_for, lost, lost_after, lost_order, lost_order_if, ticks_by, volumes_losing}
 pub use Rattle.vss_model.specs.Ending.{AgendaEnds, Ending, NothingEnds, SetFails, ending, row_settled, runs}
@@ -51,7 +51,7 @@ pub use Rattle.vss_model.specs.Reply.{BlockOf, BlocksOf, Coded, Deleted, Faulted
 pub use Rattle.vss_model.specs.Sessions.{add_refusal, has_no_volume, call_reply, known_metas, most_images, most_volumes, new_set, selected, volumes_of, with_volume}
 pub use Rattle.vss_model.specs.State.{Kept, SetRow, State, has_image, history_in, history_of, in_progress, is_complete, is_held, is_kept_set, is_running, kept, kept_at, kept_if, kept_image, kept_of}
 pub use Rattle.vss_model.specs.State.{left_now, row_changed, row_of, row_of_writer, start}
-pub use Rattle.vss_model.specs.Steps.{cut_each, cut_if, is_failed_step, is_flush, row_cut, with_cut}
+pub use Rattle.vss_model.specs.Steps.{is_failed_step, is_flush, row_cut, with_cut}
 pub use Rattle.vss_model.specs.Told.{Fits, IsDigestIf, IsFirstIf, mark_if, mark_of}
 pub use Rattle.vss_model.specs.Trail.{act_of, is_fault}
 pub use Rattle.vss_names.specs.Faults.{Rose}

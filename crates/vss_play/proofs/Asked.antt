@@ -1,7 +1,8 @@
 -- The volume of the provider's next step, and the writers that are asked, are of the scenario: an agenda is of its volumes and of its
 -- writers.
-use Rattle.std.proofs.Common.{◌≡◌, ℕ, ◌<◌, ◌≤◌, List, [], ◌∷◌, length, Option, Some, None, true, arith}
-use Rattle.std.specs.Prelude.{map, filter, not, All}
+use Rattle.std.proofs.Common.{◌≡◌, ℕ, ◌==◌, ◌<◌, ◌≤◌, List, [], ◌∷◌, length, Option, Some, None, refl, Bool, true, false, subst, arith}
+use Rattle.std.specs.Prelude.{map, filter, not, ◌||◌, All}
+use Rattle.std.proofs.lemmas.Bool.{eqb-true}
 use Rattle.std.proofs.lemmas.List.Elements.{All-cons}
 use Rattle.vss_names.specs.declared.order.Order.{Order}
 use Rattle.vss_names.specs.declared.level.Level.{Level}
@@ -9,13 +10,12 @@ use Rattle.set_agenda.specs.declared.group.Group.{Group}
 use Rattle.set_agenda.specs.declared.place.Place.{Place}
 use Rattle.set_agenda.specs.declared.member.Member.{Member}
 use Rattle.set_agenda.specs.Agenda.{Agenda, Open, places, is_orders, is_at, has_said, writers_at, members_of, waited_for, with_group, left_from, left}
-use Rattle.set_agenda.specs.Agenda.{is_asking, is_asked, waits_now, order_now, order_of, open_order, next_volume}
+use Rattle.set_agenda.specs.Agenda.{is_asking, is_asked, waits_now, order_now, order_of, open_order, next_volume, is_among}
 use Rattle.scenario.specs.Plan.{Plan}
 use Rattle.vss_world.specs.Stands.{AreBelow, MembersBelow, IsAgendaIn}
 use Rattle.diff_area.proofs.Valid.{and_left as first_of, and_right as second_of}
 use Rattle.vss_model.proofs.CourseCalls.{asked_if as order_asks}
 use Rattle.vss_world.proofs.InPlan.{below_filter, next_below_from, members_filter}
-use Rattle.vss_world.proofs.Provided.{below_among as among_below}
 
 -- ## numbers below a bound
 
@@ -68,6 +68,14 @@ orders_of g o e = grind arith
 -- an order is open just where writers are asked
 pub asks_order : (os : List Open) (o : Order) → order_now os ≡ Some o → is_asking os ≡ true
 asks_order os o e = grind (arith, orders_of)
+
+among_below : (n v : ℕ) (vs : List ℕ) → AreBelow n vs → is_among v vs ≡ true → v < n
+among_below n v [] h e = cc
+among_below n v (w ∷ vs) h e = by_test (w == v) refl e (λ g. among_below n v vs h.1 g)
+  where
+    by_test : (b : Bool) → (w == v) ≡ b → (b || is_among v vs) ≡ true → (is_among v vs ≡ true → v < n) → v < n
+    by_test true f g rest = subst (λ (u : ℕ). u < n) (eqb-true w v f) h.0
+    by_test false f g rest = rest g
 
 asked_in : (n w : ℕ) (os : List Open) → (is_asking os ≡ true → AreBelow n (waits_now os)) → is_asked w os ≡ true → w < n
 asked_in n w os h e = grind (arith, among_below, first_of, second_of)

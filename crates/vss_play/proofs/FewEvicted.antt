@@ -28,7 +28,6 @@ use Rattle.provider.specs.Groups.{AreGroups, HasGroups}
 use Rattle.provider.specs.Calls.{holders, images_going}
 use Rattle.provider.proofs.Looked.{point_among}
 use Rattle.provider.proofs.Found.{found_row, inside, own, history_here, stands_here}
-use Rattle.vss_world.specs.Provided.{provided}
 use Rattle.vss_world.specs.Stands.{WorldValue, IsOf, Stands}
 use Rattle.vss_world.specs.Moves.{IsMoved}
 use Rattle.vss_world.proofs.Losing.{up_to_most}
@@ -96,13 +95,13 @@ few_for told s w acts v b of stands =
     let st = state s acts in
     let m = going_up_to s v b st in
     let groups = stands.at.groups in
-    let going = images_going m (group_of s v) (provided st) in
+    let going = images_going m (group_of s v) st.volumes in
     let is = ap length (evicted_is s v b st (orderly s acts).numbered (up_to_most _ (length st.sets))) in
     let kept = length-filter (λ (i : Evicted). is_kept_set st i.set) going in
     let fewer = count_by-le-length (λ (i : Evicted). is_kept_set st i.set) going in
-    let same = ap length (going_are m (group_of s v) (provided st)) in
-    let few = few_going m (sets_within (group_of s v) (provided st)) (few_sets (group_of s v) (provided st) (few_images told s w.provider.groups (provided st) of.groups groups)) in
-    let many = many_sets (group_of s v) (provided st) in
+    let same = ap length (going_are m (group_of s v) st.volumes) in
+    let few = few_going m (sets_within (group_of s v) st.volumes) (few_sets (group_of s v) st.volumes (few_images told s w.provider.groups st.volumes of.groups groups)) in
+    let many = many_sets (group_of s v) st.volumes in
     let all = groups.histories in
     omega (arith, is, kept, fewer, same, few, many, all)
 

@@ -10,7 +10,6 @@ use Rattle.requestor.specs.declared.session_call.SessionCall.TheVariants as call
 use Rattle.scenario.specs.declared.op.Op.TheVariants as op
 use Rattle.vss_model.specs.declared.told.Told.TheVariants as told
 use Rattle.vss_model.proofs.StateForm.{called}
-use Rattle.vss_world.proofs.ToCome.{no_agenda_provided}
 use Rattle.vss_world.proofs.Moved.{world_of, IsProviderAt, goes_nowhere, clean_devices}
 use Rattle.vss_world.proofs.Simple.{after_line}
 use Rattle.vss_world.proofs.Following.{at_of, session_comes}
@@ -96,7 +95,7 @@ module _ {D : Type 0} (device : Ghosts D) (s : Plan) {lane v : ℕ} {verdict : V
 
     -- the provider has all images, since no agenda runs
     all_groups : (st : State) → Adding st → AreGroups device.told s p.groups st.volumes
-    all_groups st at = subst (AreGroups device.told s p.groups) (no_agenda_provided st (may st at).rests) at.provider.1
+    all_groups st at = at.provider.1
 
     volumes : (st : State) (at : Adding st) → p.volumes ≡ (may st at).row.volumes
     volumes st at = at.provider.0.volumes ∙ ap volumes_of (may st at).is_in_progress
@@ -128,7 +127,7 @@ module _ {D : Type 0} (device : Ghosts D) (s : Plan) {lane v : ℕ} {verdict : V
                 ∙ sym (ap (λ (o : Option SetRow). number_prepared o st.course.agenda) ran ∙ ap (number_prepared (Some (with_volume v r.row))) r.rests);
             distinct = distinct_more v p.volumes alone at.provider.0.distinct;
           },
-          subst (AreGroups device.told s p.groups) (sym (no_agenda_provided next r.rests)) (all_groups st at),
+          all_groups st at,
         )))
 
     pub not_joined : {q : ProviderValue D} (why : VssResult) → result ≡ Err why → q ≡ p

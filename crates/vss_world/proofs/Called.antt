@@ -1,14 +1,13 @@
 -- A session line, against the acts.
-use Rattle.std.proofs.Common.{◌≡◌, ℕ, List, [], ◌∷◌, ◌++◌, refl, ap, sym, ◌∙◌, subst, Bool, true, false, Option, Some, None, ◌⊎◌, is_some, option_map}
-use Rattle.std.proofs.Common.{arith}
-use Rattle.vss_world.proofs.Words.{Act, AreGroups, AreKept, EndsAs, Evicted, Fits, Ghosts, IfStands, IsAtOver, IsEndPrepared, IsMove, IsMoved}
-use Rattle.vss_world.proofs.Words.{IsOf, IsOp, IsPrepared, IsSettled, IsStanding, Leaves, Line, Mark, NumberedFrom, Op, Plan, ProviderValue, Replied, SessionMove, SessionsValue, SetRow, State}
-use Rattle.vss_world.proofs.Words.{Told, after, after_move, are_distinct, begins_snapshot, call_of, counts_of, current_kept, current_of, ended_of, images_after, in_progress, is_add}
-use Rattle.vss_world.proofs.Words.{is_fault, is_to_come, line, line_allows, mark_of, none_over, number_prepared, orderly, provided, state, state-append, told_act, volumes_of}
+use Rattle.std.proofs.Common.{◌≡◌, ℕ, List, [], ◌∷◌, ◌++◌, refl, ap, sym, ◌∙◌, subst, Bool, true, false, Option, Some, None, ◌⊎◌, is_some, option_map, arith}
+use Rattle.vss_world.proofs.Words.{Act, AreGroups, AreKept, EndsAs, Evicted, Fits, Ghosts, IfStands, IsAtOver, IsEndPrepared, IsMove, IsMoved, IsOf, IsOp}
+use Rattle.vss_world.proofs.Words.{IsPrepared, IsSettled, IsStanding, Leaves, Line, Mark, NumberedFrom, Op, Plan, ProviderValue, Replied, SessionMove}
+use Rattle.vss_world.proofs.Words.{SessionsValue, SetRow, State, Told, after, after_move, are_distinct, begins_snapshot, call_of, counts_of, current_kept}
+use Rattle.vss_world.proofs.Words.{current_of, ended_of, images_after, in_progress, is_add, is_fault, line, line_allows, mark_of, none_over, number_prepared}
+use Rattle.vss_world.proofs.Words.{orderly, state, state-append, told_act, volumes_of}
 use Rattle.vss_model.specs.declared.told.Told.TheVariants as told
 use Rattle.vss_world.proofs.Moved.{world_of, IsProviderAt, clean_devices, leaves_of, goes_on, in_order}
 use Rattle.vss_world.proofs.Simple.{after_line}
-use Rattle.vss_world.proofs.ToCome.{no_set_provided, no_agenda_provided, all_provided}
 use Rattle.vss_world.proofs.SetGoesOn.{GoesOn, BeginsSnapshot}
 use Rattle.vss_world.proofs.LinesGoOn.{LineGoes, StartsSet, line_goes}
 use Rattle.vss_world.proofs.Prepared.{runs_number, IsUnended, none_of_zero, settled_comes, settled_keeps, unended, none_ended}
@@ -44,7 +43,7 @@ ended_with begins set n q r e f h = grind arith
 
 module _ {D : Type 0} (device : Ghosts D) (s : Plan) (op : Op) (m : SessionMove) (p q r : ProviderValue D) (acts : List Act) (act : Act)
     (settled : IsSettled device m p q) (ended : IsEndPrepared (begins_snapshot op m.outcome.told) (current_of (state s acts).sets) q r) (prepared : IsPrepared p (state s acts))
-    (groups : AreGroups device.told s p.groups (provided (state s acts)))
+    (groups : AreGroups device.told s p.groups (state s acts).volumes)
     (ends : EndsAs (ended_of (in_progress (state s acts)) (after s (state s acts) act).sets) m.outcome.set m.outcome.result)
     (volumes : (after s (state s acts) act).volumes ≡ images_after m (state s acts).volumes) where
   abbrev st : State
@@ -56,21 +55,21 @@ module _ {D : Type 0} (device : Ghosts D) (s : Plan) (op : Op) (m : SessionMove)
   goes_left : GoesOn st next → begins_snapshot op m.outcome.told ≡ false → IsProviderAt device.told s r next
   goes_left goes plain =
       subst (λ (z : ProviderValue D). IsProviderAt device.told s z next) (sym (not_ended (begins_snapshot op m.outcome.told) (current_of st.sets) q r plain ended))
-      (settled_comes device s p st next (is_to_come st.course.agenda) (provided st) st.volumes (set_move s p acts act prepared goes) groups m q settled ends volumes)
+      (settled_comes device s p st next st.volumes (set_move s p acts act prepared goes) groups m q settled ends volumes)
 
-  -- where the provider has all images, and no set ends
-  quiet : provided st ≡ st.volumes → ended_of (in_progress st) next.sets ≡ None → IsUnended device.told s p q next.volumes
-  quiet all none = unended device s p st.volumes (none_of_zero s acts) (subst (AreGroups device.told s p.groups) all groups) next m q settled
+  -- where no set ends
+  quiet : ended_of (in_progress st) next.sets ≡ None → IsUnended device.told s p q next.volumes
+  quiet none = unended device s p st.volumes (none_of_zero s acts) groups next m q settled
       (none_ended (ended_of (in_progress st) next.sets) m.outcome.set m.outcome.result none ends) volumes
 
   starts_left : StartsSet st next → begins_snapshot op m.outcome.told ≡ false → IsProviderAt device.told s r next
-  starts_left starts plain = grind (arith, quiet, no_set_provided, not_ended, no_agenda_provided)
+  starts_left starts plain = grind (arith, quiet, not_ended)
 
   begins_left : (w : SetRow) → in_progress st ≡ Some w → BeginsSnapshot st next → begins_snapshot op m.outcome.told ≡ true → IsProviderAt device.told s r next
   begins_left w here begins plain =
       let ran : in_progress next ≡ Some w = begins.set ∙ here in
       let numbered : NumberedFrom 1 next.sets = subst (λ (z : State). NumberedFrom 1 z.sets) (state-append s acts act) (orderly s (acts ++ act ∷ [])).numbered in
-      let u = quiet (no_agenda_provided st begins.rests) (ap (λ (o : Option SetRow). ended_of o next.sets) here ∙ none_over 1 next.sets w numbered ran) in
+      let u = quiet (ap (λ (o : Option SetRow). ended_of o next.sets) here ∙ none_over 1 next.sets w numbered ran) in
       let is = ended_with (begins_snapshot op m.outcome.told) (current_of st.sets) w.number q r plain (ap (option_map (λ (z : SetRow). z.number)) here) ended in
       subst (λ (z : ProviderValue D). IsProviderAt device.told s z next) (sym is) (
         record {
@@ -78,7 +77,7 @@ module _ {D : Type 0} (device : Ghosts D) (s : Plan) (op : Op) (m : SessionMove)
           set = sym (ap (λ (o : Option SetRow). number_prepared o next.course.agenda) ran ∙ runs_number w next.course.agenda begins.runs);
           distinct = ap are_distinct u.volumes ∙ prepared.distinct;
         },
-        subst (AreGroups device.told s q.groups) (sym (all_provided (in_progress next) next.course.agenda next.volumes begins.coming)) u.groups,
+        u.groups,
       )
 
   pub line_left : SetGoes st next (begins_snapshot op m.outcome.told) → IsProviderAt device.told s r next

@@ -1,14 +1,13 @@
 -- Digests of volumes and of images: what is told of them, and that nothing but counts of devices changes.
-use Rattle.std.proofs.Common.{◌≡◌, ℕ, ◌<◌, List, length, ap, sym, ◌∙◌, true, false, Option, Some, None, slice_get, is_some, IfSome, All}
-use Rattle.std.proofs.Common.{arith}
-use Rattle.vss_world.proofs.Words.{Act, AreDevicesAlone, AreGroups, Digested, Evicted, Ghosts, GroupValue, HasImage, IfStandFor, IfStands, IsDigestIf, IsDigestOf}
-use Rattle.vss_world.proofs.Words.{IsDigestTold, IsDigestedAt, IsDigestedIf, IsOf, IsPointOf, IsQuiet, IsStanding, Plan, ProviderValue, SessionsValue, Stands, State, WorldValue, Write, blocks_of}
-use Rattle.vss_world.proofs.Words.{concat, contents, devices_of, history_at, history_of, is_kept_set, kept, point_before as kept_point, point_in, provided, state, tells_of}
+use Rattle.std.proofs.Common.{◌≡◌, ℕ, ◌<◌, List, length, ap, refl, true, false, Option, Some, None, slice_get, is_some, IfSome, All, arith}
+use Rattle.vss_world.proofs.Words.{Act, AreDevicesAlone, AreGroups, Digested, Evicted, Ghosts, GroupValue, HasImage, IfStandFor, IfStands, IsDigestIf}
+use Rattle.vss_world.proofs.Words.{IsDigestOf, IsDigestTold, IsDigestedAt, IsDigestedIf, IsOf, IsPointOf, IsQuiet, IsStanding, Plan, ProviderValue}
+use Rattle.vss_world.proofs.Words.{SessionsValue, Stands, State, WorldValue, blocks_of, concat, contents, devices_of, history_of, is_kept_set, kept}
+use Rattle.vss_world.proofs.Words.{point_before as kept_point, point_in, state, tells_of}
 use Rattle.cow_volume.specs.Calls.{cause_of}
 use Rattle.provider.proofs.Words.{HasImageCause, ImageFault, IsQuiet as IsGroupsQuiet, IsThere}
-use Rattle.vss_world.proofs.Moved.{world_of, in_order, of_kept}
+use Rattle.vss_world.proofs.Moved.{world_of, of_kept}
 use Rattle.vss_world.proofs.Options.{some_is}
-use Rattle.vss_world.proofs.OnProvided.{writes_at, kept_at}
 use Rattle.vss_world.proofs.Seen.{digest_slot}
 
 -- ## nothing but counts changes
@@ -38,10 +37,10 @@ module _ {D : Type 0} (device : Ghosts D) {s : Plan} {p q : ProviderValue D} {x 
 
 -- the provider has an image that is kept
 point_stands : (s : Plan) (acts : List Act) (n v point : ℕ) → point_in n (kept (state s acts) (history_of (state s acts) v)) ≡ Some point
-    → point_in n (history_at (provided (state s acts)) v).images ≡ Some point
+    → point_in n (history_of (state s acts) v).images ≡ Some point
 point_stands s acts n v point e =
     let st = state s acts in
-    kept_point (is_kept_set st) n point (history_at (provided st) v).images (ap (point_in n) (kept_at st v (in_order s acts).numbered) ∙ e)
+    kept_point (is_kept_set st) n point (history_of st v).images e
 
 -- a call on one finds it
 pub stands_image : {D : Type 0} {told : D → Option (List (List ℕ))} {s : Plan} {w : WorldValue D} (set v : ℕ) → IsStanding told w s
@@ -59,8 +58,8 @@ device_fault device s v set fault old new there cause = grind arith
 module _ {D : Type 0} (told : D → Option (List (List ℕ))) {s : Plan} {p : ProviderValue D} {x : SessionsValue} {l : List ℕ} {e : List Evicted} {w : WorldValue D} (is : world_of p x l e ≡ w)
     (of : IsOf w s) where
   -- what is read of the devices is the digest of these blocks
-  digest_of : {v : ℕ} (set : Option ℕ) (digest : List ℕ) (st : State) (point : ℕ) → v < length s.volumes → AreGroups told s w.provider.groups (provided st)
-      → IsDigestTold told s p.groups v set digest → IsPointOf set (history_at (provided st) v) point
+  digest_of : {v : ℕ} (set : Option ℕ) (digest : List ℕ) (st : State) (point : ℕ) → v < length s.volumes → AreGroups told s w.provider.groups st.volumes
+      → IsDigestTold told s p.groups v set digest → IsPointOf set (history_of st v) point
       → IsDigestIf (slice_get (tells_of told s w.devices) v) (concat (contents (blocks_of s v) (history_of st v).writes point)) digest
   digest_of set digest st point within groups seen so = grind (arith, digest_slot)
 
@@ -69,7 +68,7 @@ module _ {D : Type 0} (told : D → Option (List (List ℕ))) {s : Plan} {p : Pr
       → IfStands told w s (λ st. IsDigestOf (tells_of told s w.devices) s st v set digest)
   told_of {v = v} None digest within h acts stands =
       let st = state s acts in
-      digest_of None digest st (length (history_of st v).writes) within stands.at.groups h (ap (λ (ws : List Write). length ws) (sym (writes_at st v)))
+      digest_of None digest st (length (history_of st v).writes) within stands.at.groups h refl
   told_of {v = v} (Some set) digest within h acts stands =
       λ point shows. digest_of (Some set) digest (state s acts) point within stands.at.groups h (point_stands s acts set v point shows)
 

@@ -1,11 +1,10 @@
 -- The kept images that go for a write: those that the provider tells, but for sets that are not complete, are those of the definitions.
-use Rattle.std.proofs.Common.{◌≡◌, ℕ, zero, suc, ◌+◌, ◌<◌, ◌≤◌, ◌==◌, List, [], ◌∷◌, ◌++◌, length, refl, ap, sym, ◌∙◌, arith, Bool, true, false, ◌&&◌, Option, Some, None, filter, is_some, not}
-use Rattle.std.proofs.Common.{nat_le, nat_lt, if◌then◌else◌}
-use Rattle.vss_world.proofs.Words.{Evicted, History, Image, NumberedFrom, Placed, Plan, SetRow, State, after_set, and-true, comes, eq-eqb, evicted_for, evicted_of, filter-append, flat_map}
-use Rattle.vss_world.proofs.Words.{going_up_to, gone_up_to, group_of, has_complete, has_image, holders, images_going, in_progress, is_complete, is_kept_set, le-leb, leb-false, lt-leb, nat_tests}
-use Rattle.vss_world.proofs.Words.{ne_eqb, none_below, number_of, or-false, point_in, provided, range_with_len, volumes_losing, without}
+use Rattle.std.proofs.Common.{◌≡◌, ℕ, zero, suc, ◌+◌, ◌<◌, ◌≤◌, ◌==◌, List, [], ◌∷◌, ◌++◌, length, refl, ap, sym, ◌∙◌, arith, Bool, true, false, ◌&&◌, Option}
+use Rattle.std.proofs.Common.{Some, None, filter, is_some, not, nat_le, nat_lt, if◌then◌else◌}
+use Rattle.vss_world.proofs.Words.{Evicted, History, Image, NumberedFrom, Placed, Plan, SetRow, State, after_set, and-true, eq-eqb, evicted_for, evicted_of}
+use Rattle.vss_world.proofs.Words.{filter-append, flat_map, going_up_to, gone_up_to, group_of, has_complete, has_image, holders, images_going, is_complete}
+use Rattle.vss_world.proofs.Words.{is_kept_set, le-leb, leb-false, lt-leb, nat_tests, ne_eqb, none_below, or-false, point_in, range_with_len, volumes_losing}
 use Rattle.vss_world.proofs.Losing.{stays, and_not}
-use Rattle.vss_world.proofs.OnProvided.{has_if, other_set}
 use Rattle.vss_world.proofs.SetGoesOn.{skip}
 
 -- ## the volumes that lose an image
@@ -46,15 +45,6 @@ not_losing n m v (p ∷ ps) (h ∷ hs) e = same_test _ false v (volumes_losing n
     here : (b : Bool) → (has_image n h && not (has_image n (if b then record { writes = h.writes; images = after_set m h.images } else h))) ≡ false
     here true = ap (λ (o : Option ℕ). has_image n h && not (is_some o)) (stays m n h.images (leb-false n m e)) ∙ and_not (has_image n h)
     here false = and_not (has_image n h)
-
--- ## by what the provider has
-
-holders_without : (n r : ℕ) (test : ℕ → Bool) (v : ℕ) (ps : List Placed) (hs : List History) → ((k : ℕ) → test k ≡ true → (r == n) ≡ false) → holders n v ps (without test r hs) ≡ holders n v ps hs
-holders_without n r test v [] hs apart = refl
-holders_without n r test v (p ∷ ps) [] apart = refl
-holders_without n r test v (p ∷ ps) (h ∷ hs) apart =
-    same_test _ (p.within && has_image n h) v (holders n (v + 1) ps (without (λ u. test (suc u)) r hs)) (holders n (v + 1) ps hs) (ap (λ (t : Bool). p.within && t) (has_if (test 0) r n h (apart 0)))
-    (holders_without n r (λ u. test (suc u)) (v + 1) ps hs (λ k. apart (suc k)))
 
 -- ## the images of complete sets among them
 
@@ -121,22 +111,21 @@ rows_are f g k (suc j) (r ∷ rows) numbered near far few =
 -- ## all of them
 
 pub evicted_is : (s : Plan) (v b : ℕ) (st : State) → NumberedFrom 1 st.sets → going_up_to s v b st ≤ length st.sets
-    → filter (λ (i : Evicted). is_kept_set st i.set) (images_going (going_up_to s v b st) (group_of s v) (provided st)) ≡ evicted_for s st v b
+    → filter (λ (i : Evicted). is_kept_set st i.set) (images_going (going_up_to s v b st) (group_of s v) st.volumes) ≡ evicted_for s st v b
 evicted_is s v b st numbered few =
     let m = going_up_to s v b st in
     let ps = group_of s v in
-    let volumes : ℕ → List ℕ = λ n. holders n 0 ps (provided st) in
+    let volumes : ℕ → List ℕ = λ n. holders n 0 ps st.volumes in
     kept_all (is_kept_set st) volumes (range_with_len 1 m)
     ∙ rows_are (λ n. evicted_of n (volumes_losing n 0 st.volumes (gone_up_to m ps st.volumes))) (kept_going (is_kept_set st) volumes) 1 m st.sets numbered
     (λ n low l. near n (is_kept_set st n) refl (le-leb n m (omega (arith, l)))) (λ n l. ap (evicted_of n) (not_losing n m 0 ps st.volumes (lt-leb n m (omega (arith, l))))) few
   where
     near : (n : ℕ) (t : Bool) → is_kept_set st n ≡ t → nat_le n (going_up_to s v b st) ≡ true
-        → (if is_kept_set st n then evicted_of n (holders n 0 (group_of s v) (provided st)) else [])
+        → (if is_kept_set st n then evicted_of n (holders n 0 (group_of s v) st.volumes) else [])
         ≡ (if is_kept_set st n then evicted_of n (volumes_losing n 0 st.volumes (gone_up_to (going_up_to s v b st) (group_of s v) st.volumes)) else [])
     near n true e l =
         ap (λ (us : List ℕ). if is_kept_set st n then evicted_of n us else [])
-        (holders_without n (number_of (in_progress st)) (comes (in_progress st) st.course.agenda) 0 (group_of s v) st.volumes (other_set st n numbered e)
-        ∙ sym (losing_is n (going_up_to s v b st) 0 (group_of s v) st.volumes l))
+        (sym (losing_is n (going_up_to s v b st) 0 (group_of s v) st.volumes l))
     near n false e l =
-        ap (λ (t : Bool). if t then evicted_of n (holders n 0 (group_of s v) (provided st)) else []) e
+        ap (λ (t : Bool). if t then evicted_of n (holders n 0 (group_of s v) st.volumes) else []) e
         ∙ sym (ap (λ (t : Bool). if t then evicted_of n (volumes_losing n 0 st.volumes (gone_up_to (going_up_to s v b st) (group_of s v) st.volumes)) else []) e)

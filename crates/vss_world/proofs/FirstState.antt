@@ -1,9 +1,9 @@
 -- What the core stands for before any act.
 use Rattle.std.proofs.Common.{◌≡◌, ℕ, List, [], length, refl, ap, sym, ◌∙◌, subst, arith, Option, Some, map, slice_get}
-use Rattle.vss_world.proofs.Words.{AreFirst, AreFresh, AreGroups, AreNew, AreWhole, Evicted, GroupValue, HasGroups, IsInGroup, IsOf, IsPlan, Plan, ProviderValue, SessionsValue, Stands, VolumeRow}
-use Rattle.vss_world.proofs.Words.{are_distinct, fresh, get_or_from_slice_get, group_slots, slice_get_inside, slice_get_within, start}
+use Rattle.vss_world.proofs.Words.{AreFirst, AreFresh, AreGroups, AreNew, AreWhole, Evicted, GroupValue, HasGroups, IsInGroup, IsOf, IsPlan, Plan}
+use Rattle.vss_world.proofs.Words.{ProviderValue, SessionsValue, Stands, VolumeRow, are_distinct, fresh, get_or_from_slice_get, group_slots, slice_get_inside}
+use Rattle.vss_world.proofs.Words.{slice_get_within}
 use Rattle.vss_world.proofs.Moved.{world_of}
-use Rattle.vss_world.proofs.ToCome.{no_set_provided}
 
 in_group : (s : Plan) (v : ℕ) (r : VolumeRow) → IsPlan s → slice_get s.volumes v ≡ Some r → IsInGroup s.groups r
 in_group s v r plan e = subst (IsInGroup s.groups) (get_or_from_slice_get s.volumes v r r e) (plan.grouped.rows v r (slice_get_within s.volumes v r e))
@@ -47,7 +47,7 @@ made_stands {D = D} told s groups p x l e plan new is whole begun stand =
     let clock = begun.clock in
     record {
       at = record {
-        groups = subst (AreGroups told s p.groups) (sym (no_set_provided (start s) refl)) (stand (fresh_groups told s groups plan new));
+        groups = stand (fresh_groups told s groups plan new);
         prepared = record { volumes = ap (λ (z : ProviderValue D). z.volumes) is; set = ap (λ (z : ProviderValue D). z.set) is; distinct = ap (λ (z : ProviderValue D). are_distinct z.volumes) is };
         sessions = begun.keeps;
         plan = record { sets = tt; agenda = tt; members = tt; disabled = tt };

@@ -1,14 +1,15 @@
 -- A move of the sessions, against the acts: what they come to, with the images that go.
-use Rattle.std.proofs.Common.{◌≡◌, ℕ, ◌*◌, ◌<◌, ◌≤◌, ◌^◌, ◌-◌, List, [], ◌∷◌, ◌++◌, length, refl, ap, sym, ◌∙◌, subst, arith, true, false, Bool, Option, map}
-use Rattle.vss_world.proofs.Words.{Act, EndsAs, Event, Evicted, Fault, FaultAfter, Ghosts, IfStands, IsAt, IsBlocked, IsMove, IsMoved, IsOf, IsOutcome, IsPrepared, IsSettled}
-use Rattle.vss_world.proofs.Words.{IsStanding, IsStandingIn, IsWait, Keeps, Mark, NumberedFrom, Plan, ProviderValue, SessionMove, SessionsValue, SetRow, State, after, after_move, devices_of, dropped}
-use Rattle.vss_world.proofs.Words.{ended_of, event_volumes, images_after, in_progress, is_fault, is_to_come, length_bare, mark_of, named_known_components, number_prepared, orderly}
-use Rattle.vss_world.proofs.Words.{outcome_is_running, provided, state, state-append, tells_of, told_act}
+use Rattle.std.proofs.Common.{◌≡◌, ℕ, ◌*◌, ◌<◌, ◌≤◌, ◌^◌, ◌-◌, List, [], ◌∷◌, ◌++◌, length, refl, ap, sym, ◌∙◌, subst, arith, true, false, Bool, Option, Some, None, map}
+use Rattle.vss_world.proofs.Words.{Act, EndsAs, Event, Evicted, Fault, FaultAfter, Ghosts, IfStands, IsAt, IsBlocked, IsMove, IsMoved, IsOf, IsOutcome}
+use Rattle.vss_world.proofs.Words.{IsPrepared, IsSettled, IsStanding, IsStandingIn, IsWait, Keeps, Mark, NumberedFrom, Plan, ProviderValue, SessionMove}
+use Rattle.vss_world.proofs.Words.{SessionsValue, SetRow, State, after, after_move, devices_of, dropped, ended_of, event_volumes, images_after, in_progress}
+use Rattle.vss_world.proofs.Words.{is_fault, is_snapshot, kind_is, Kind, Member, Snapshot, Agenda, Tied, tied, length_bare, mark_of, named_known_components}
+use Rattle.vss_world.proofs.Words.{number_prepared, orderly, outcome_is_running, state, state-append, tells_of, told_act}
+use Rattle.vss_model.proofs.Words.{IsOf as IsOfSet}
 use Rattle.vss_world.specs.Words.{IsOf as IsSessionsOf, IsStanding as IsSessionsStanding}
 use Rattle.vss_world.proofs.Moved.{world_of, IsProviderAt, OfDevices, Goes, in_order, moved, clean_devices}
-use Rattle.vss_world.proofs.ToCome.{agenda_volumes, has_snapshot_set, no_set_provided}
 use Rattle.vss_world.proofs.InPlan.{IsEventIn, in_plan_after}
-use Rattle.vss_world.proofs.Prepared.{IsSetMove, none_of_zero, provided_dropped, provided_at, no_image_elsewhere, settled_comes, settled_keeps}
+use Rattle.vss_world.proofs.Prepared.{IsSetMove, none_of_zero, number_dropped, settled_comes, settled_keeps}
 use Rattle.vss_world.proofs.SetGoesOn.{GoesOn, IsOfAgenda}
 
 -- ## where the sessions stand
@@ -44,6 +45,28 @@ standing_of {s = s} of standing = let h = standing_in of standing in record { pl
 pub rows_long : (s : Plan) (x : SessionsValue) (st : State) → Keeps x st → IsSessionsOf x s → length st.course.rows ≡ length s.writers
 rows_long s x st keeps of = sym (ap length keeps.course.follows.rows) ∙ of.count
 
+-- ## the set of a snapshot's agenda
+
+volumes_are : (k : Kind) (vs : List ℕ) (ms participants : List Member) (o : Option SetRow) (r : SetRow) → k ≡ Snapshot → o ≡ Some r → IsOfSet k vs ms participants o → vs ≡ r.volumes
+volumes_are k vs ms participants o r e f h = grind arith
+
+-- the running snapshot agenda has the volumes of the set in progress
+pub agenda_volumes : (s : Plan) (acts : List Act) (a : Agenda) (r : SetRow) → (state s acts).course.agenda ≡ Some a → is_snapshot a.kind ≡ true → in_progress (state s acts) ≡ Some r
+    → a.volumes ≡ r.volumes
+agenda_volumes s acts a r runs snapshot e =
+    let st = state s acts in
+    volumes_are a.kind a.volumes a.members st.course.members (in_progress st) r (kind_is a.kind snapshot) e
+    (subst (λ (o : Option Agenda). Tied o st.course.members (in_progress st)) runs (tied s acts))
+
+no_set_is : (k : Kind) (vs : List ℕ) (ms participants : List Member) (o : Option SetRow) → k ≡ Snapshot → o ≡ None → IsOfSet k vs ms participants o → ⊥
+no_set_is k vs ms participants o e f h = grind arith
+
+-- it has a set in progress
+pub has_snapshot_set : (s : Plan) (acts : List Act) (a : Agenda) → (state s acts).course.agenda ≡ Some a → is_snapshot a.kind ≡ true → in_progress (state s acts) ≡ None → ⊥
+has_snapshot_set s acts a runs snapshot e =
+    let st = state s acts in
+    no_set_is a.kind a.volumes a.members st.course.members (in_progress st) (kind_is a.kind snapshot) e (subst (λ (o : Option Agenda). Tied o st.course.members (in_progress st)) runs (tied s acts))
+
 -- ## the move
 
 -- an act at which no device can fail
@@ -56,7 +79,7 @@ course_of s acts = grind (arith, orderly, outcome_is_running, agenda_volumes, ha
 
 -- the volumes of each state, which no event changed
 pub set_move : {D : Type 0} (s : Plan) (p : ProviderValue D) (acts : List Act) (act : Act) → IsPrepared p (state s acts) → GoesOn (state s acts) (after s (state s acts) act)
-    → IsSetMove p (state s acts) (after s (state s acts) act) (is_to_come (state s acts).course.agenda) (provided (state s acts)) (state s acts).volumes
+    → IsSetMove p (state s acts) (after s (state s acts) act) (state s acts).volumes
 set_move s p acts act prepared goes =
     let st = state s acts in
     record {
@@ -64,11 +87,7 @@ set_move s p acts act prepared goes =
       numbered = subst (λ (z : State). NumberedFrom 1 z.sets) (state-append s acts act) (orderly s (acts ++ act ∷ [])).numbered;
       prepared = prepared;
       above = none_of_zero s acts;
-      same = λ r e. ap (λ (n : ℕ). map (dropped n) (provided st)) (prepared.set ∙ ap (λ (o : Option SetRow). number_prepared o st.course.agenda) e)
-          ∙ provided_dropped s acts r e;
-      none = λ e. no_set_provided st e;
-      coming = λ r e. provided_at st r e;
-      elsewhere = λ r k h e at out. no_image_elsewhere s acts r k h e at out;
+      same = λ r e. ap (λ (n : ℕ). map (dropped n) st.volumes) (prepared.set ∙ ap (λ (o : Option SetRow). number_prepared o st.course.agenda) e) ∙ number_dropped s acts r e;
     }
 
 -- which set ends in a move
@@ -111,7 +130,7 @@ module _ {D : Type 0} (device : Ghosts D) (s : Plan) (event : Event) (m : Sessio
       (λ acts stands.
       let st = state s acts in
       let here = at acts stands in
-      settled_comes device s p st (after_move s st event m) (is_to_come st.course.agenda) (provided st) st.volumes
+      settled_comes device s p st (after_move s st event m) st.volumes
       (set_move s p acts (told_act event m.outcome.told) stands.at.prepared (on acts stands)) stands.at.groups m q settled (ends_of st move here)
       (move.volumes st here ∙ ap (images_after m) (still st)))
       of within

@@ -184,16 +184,16 @@ in_write s v w mark st h =
 in_reverted : (s : Plan) (v : ℕ) (k : Kept) (mark : Mark) (st : State) → IsInPlan s st → IsInPlan s (reverted_as s v k mark st).1
 in_reverted s v k mark st h = grind arith
 
-made_sets : (s : Plan) (g : Option Group) (st : State) → SetsBelow (length s.volumes) st.sets → SetsBelow (length s.volumes) (step_made g st).sets
-made_sets s g st h = grind (arith, sets_cut)
+made_sets : (s : Plan) (g : Option Group) (v : Option ℕ) (st : State) → SetsBelow (length s.volumes) st.sets → SetsBelow (length s.volumes) (step_made g v st).sets
+made_sets s g v st h = grind (arith, sets_cut)
 
-in_step : (s : Plan) (fails : Bool) (g : Option Group) (st : State) → IsInPlan s st → IsInPlan s (stepped_as fails g st)
-in_step s true g st h = in_followed s (runs st) _ st (course_stepped (IsCourseIn s) (in_course s) false st.clock st.course (course_of s st h)) h.sets
-in_step s false g st h = in_followed s (runs st) _ (step_made g st) (course_stepped (IsCourseIn s) (in_course s) true st.clock st.course (course_of s st h)) (made_sets s g st h.sets)
+in_step : (s : Plan) (fails : Bool) (g : Option Group) (v : Option ℕ) (st : State) → IsInPlan s st → IsInPlan s (stepped_as fails g v st)
+in_step s true g v st h = in_followed s (runs st) _ st (course_stepped (IsCourseIn s) (in_course s) false st.clock st.course (course_of s st h)) h.sets
+in_step s false g v st h = in_followed s (runs st) _ (step_made g v st) (course_stepped (IsCourseIn s) (in_course s) true st.clock st.course (course_of s st h)) (made_sets s g v st h.sets)
 
 in_stepped : (s : Plan) (mark : Mark) (st : State) → IsInPlan s st → IsInPlan s (stepped mark st)
 unfolding stepped
-in_stepped s mark st h = in_step s _ (open_group (left_now st)) st h
+in_stepped s mark st h = in_step s _ (open_group (left_now st)) (next_volume (left_now st)) st h
 
 in_answered : (s : Plan) (w : ℕ) (said : Said) (st : State) → IsInPlan s st → IsInPlan s (answered w said st)
 unfolding answered

@@ -1,9 +1,9 @@
 -- Which images of a volume are kept: all of them but the newest, where its set is in progress.
-use Rattle.std.proofs.Common.{◌≡◌, ℕ, zero, suc, ◌+◌, ◌<◌, List, [], ◌∷◌, length, refl, ap, sym, ◌∙◌, arith, Bool, true, false, ◌&&◌, ◌||◌, ◌==◌, take, filter, not, if◌then◌else◌, slice_index}
-use Rattle.vss_world.proofs.Words.{Act, AreInTime, AreLater, AreLive, History, Image, NumberedFrom, OverButNewest, Plan, SetOutcome, SetRow, State, UpTo, both_ways}
-use Rattle.vss_world.proofs.Words.{cond-true, cond_both, eqb-true, has_failed, history_at, history_of, images_in_time, images_up_to, is_complete, is_kept_set, is_live, is_running, kept, length-map}
-use Rattle.vss_world.proofs.Words.{list_any, live-filter, live_at, no_live_below, orderly, provided, sets_of, state}
-use Rattle.vss_world.proofs.OnProvided.{on_provided, kept_at}
+use Rattle.std.proofs.Common.{◌≡◌, ℕ, zero, suc, ◌+◌, ◌<◌, List, [], ◌∷◌, length, refl, ap, sym, ◌∙◌, arith, Bool, true, false, ◌&&◌, ◌||◌, ◌==◌, take, filter}
+use Rattle.std.proofs.Common.{not, if◌then◌else◌, slice_index}
+use Rattle.vss_world.proofs.Words.{Act, AreInTime, AreLive, Image, NumberedFrom, OverButNewest, Plan, SetOutcome, SetRow, State, UpTo, both_ways, cond-true}
+use Rattle.vss_world.proofs.Words.{eqb-true, has_failed, history_of, images_in_time, images_up_to, is_complete, is_kept_set, is_live, is_running, kept}
+use Rattle.vss_world.proofs.Words.{length-map, list_any, live_at, no_live_below, orderly, sets_of, state}
 
 over_live : (o : SetOutcome) → is_running o ≡ false → has_failed o ≡ false → is_complete o ≡ true
 over_live o e f = grind arith
@@ -62,61 +62,23 @@ sets_taken (suc k) (i ∷ images) = ap (λ (ns : List ℕ). i.set ∷ ns) (sets_
 decided : (b : Bool) (images : List Image) (k : ℕ) → sets_of (if b then images else take k images) ≡ (if b then sets_of images else take k (sets_of images))
 decided b images k = grind (arith, sets_taken)
 
--- ## without the images of a set
-
-pub later_filter : (test : Image → Bool) (i : Image) (images : List Image) → AreLater i images → AreLater i (filter test images)
-later_filter test i [] h = tt
-later_filter test i (j ∷ images) h =
-    let rest = later_filter test i images h.2 in
-    cond_both (test j) (j ∷ filter test images) (filter test images) (AreLater i) (λ e. (h.0, h.1, rest)) (λ e. rest)
-
-pub in_time_filter : (test : Image → Bool) (writes : ℕ) (images : List Image) → AreInTime writes images → AreInTime writes (filter test images)
-in_time_filter test writes [] h = tt
-in_time_filter test writes (i ∷ images) h =
-    let rest = in_time_filter test writes images h.2 in
-    cond_both (test i) (i ∷ filter test images) (filter test images) (AreInTime writes) (λ e. (h.0, later_filter test i images h.1, rest)) (λ e. rest)
-
-pub up_to_filter : (test : Image → Bool) (n : ℕ) (images : List Image) → UpTo n images → UpTo n (filter test images)
-up_to_filter test n [] h = tt
-up_to_filter test n (i ∷ images) h =
-    let rest = up_to_filter test n images h.1 in cond_both (test i) (i ∷ filter test images) (filter test images) (UpTo n) (λ e. (h.0, rest)) (λ e. rest)
-
--- images of sets that were started and have not failed, in time
-record AreOf (rows : List SetRow) (writes : ℕ) (images : List Image) : Type 0 where
-  live : AreLive rows images
-  times : AreInTime writes images
-  up : UpTo (length rows) images
-
-pub kept_sets_are : (s : Plan) (acts : List Act) (v k : ℕ) (sets : List ℕ) (b : Bool) → sets ≡ sets_of (history_at (provided (state s acts)) v).images → k + 1 ≡ length sets
+pub kept_sets_are : (s : Plan) (acts : List Act) (v k : ℕ) (sets : List ℕ) (b : Bool) → sets ≡ sets_of (history_of (state s acts) v).images → k + 1 ≡ length sets
     → b ≡ is_kept_set (state s acts) (slice_index sets k)
     → (if b then sets else take k sets) ≡ sets_of (kept (state s acts) (history_of (state s acts) v))
 kept_sets_are s acts v k sets b are long is =
     let st = state s acts in
     let o = orderly s acts in
-    let images = (history_at (provided st) v).images in
-    let writes = length (history_of st v).writes in
-    let test : SetRow → Image → Bool = λ r i. not (i.set == r.number) in
-    let of = on_provided (λ (x : History). AreOf st.sets writes x.images) st v
-    (record { live = live_at st.sets st.volumes v o.live; times = images_in_time s acts v; up = images_up_to st.sets st.volumes v o.numbered o.live })
-    (λ r e coming. let is = (history_of st v).images in record {
-      live = live-filter (test r) st.sets is (live_at st.sets st.volumes v o.live);
-      times = in_time_filter (test r) writes is (images_in_time s acts v);
-      up = up_to_filter (test r) (length st.sets) is (images_up_to st.sets st.volumes v o.numbered o.live);
-    }) in
+    let images = (history_of st v).images in
     let count : length sets ≡ length images = ap length are ∙ length-map images (λ (i : Image). i.set) in
-    let decides = kept_by_newest st writes images k b o.numbered o.newest of.live of.times of.up (long ∙ count) (ap (λ (ns : List ℕ). is_kept_set st (slice_index ns k)) (sym are) ∙ sym is) in
-    ap (λ (ns : List ℕ). if b then ns else take k ns) are ∙ sym (decided b images k) ∙ ap sets_of (sym decides) ∙ ap sets_of (kept_at st v o.numbered)
+    let decides = kept_by_newest st (length (history_of st v).writes) images k b o.numbered o.newest (live_at st.sets st.volumes v o.live) (images_in_time s acts v)
+    (images_up_to st.sets st.volumes v o.numbered o.live) (long ∙ count) (ap (λ (ns : List ℕ). is_kept_set st (slice_index ns k)) (sym are) ∙ sym is) in
+    ap (λ (ns : List ℕ). if b then ns else take k ns) are ∙ sym (decided b images k) ∙ ap sets_of (sym decides)
 
 -- where the provider has none, none is kept
-pub no_sets : (s : Plan) (acts : List Act) (v : ℕ) (sets : List ℕ) → sets ≡ sets_of (history_at (provided (state s acts)) v).images → length sets ≡ 0
+pub no_sets : (s : Plan) (acts : List Act) (v : ℕ) (sets : List ℕ) → sets ≡ sets_of (history_of (state s acts) v).images → length sets ≡ 0
     → sets ≡ sets_of (kept (state s acts) (history_of (state s acts) v))
-no_sets s acts v sets are none =
-    let st = state s acts in
-    by_images (history_at (provided st) v) sets are none ∙ ap sets_of (kept_at st v (orderly s acts).numbered)
+no_sets s acts v sets are none = of_list (history_of (state s acts) v).images are
   where
-    by_images : (h : History) (sets : List ℕ) → sets ≡ sets_of h.images → length sets ≡ 0 → sets ≡ sets_of (kept (state s acts) h)
-    by_images h sets e f = of_list h.images e
-      where
-        of_list : (images : List Image) → sets ≡ sets_of images → sets ≡ sets_of (filter (λ i. is_kept_set (state s acts) i.set) images)
-        of_list [] e = e
-        of_list (i ∷ images) e = let long = ap length e in absurd (omega (arith, long, f))
+    of_list : (images : List Image) → sets ≡ sets_of images → sets ≡ sets_of (filter (λ i. is_kept_set (state s acts) i.set) images)
+    of_list [] e = e
+    of_list (i ∷ images) e = let long = ap length e in absurd (omega (arith, long, none))

@@ -1,5 +1,4 @@
 pub mod Options
-pub mod OnProvided
 pub mod Tied
 pub mod Moved
 pub mod Simple
@@ -14,7 +13,6 @@ pub mod KeptSets
 pub mod InPlan
 pub mod Losing
 pub mod Evictions
-pub mod Clearing
 pub mod Putting
 pub mod Following
 pub mod Called
@@ -27,13 +25,8 @@ pub mod Synced
 pub mod FirstState
 pub mod Registering
 pub mod Listed
-pub mod Unnamed
-pub mod WithoutImages
-pub mod CommitLog
-pub mod ToCome
 pub mod SetGoesOn
 pub mod LinesGoOn
 pub mod Prepared
-pub mod StepComes
 pub mod Adding
 pub mod Words

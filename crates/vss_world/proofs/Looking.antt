@@ -1,16 +1,15 @@
 -- Each line that looks at volumes or images, against the definitions.
 use Rattle.std.proofs.Common.{◌≡◌, ℕ, ◌<◌, List, [], length, refl, ap, sym, ◌∙◌, subst, Bool, true, false, Option, Some, None, is_some, option_map, arith}
-use Rattle.vss_world.proofs.Words.{Act, Clean, Coded, Evicted, Ghosts, HasImage, IfStandFor, IfStands, ImageBlock, ImageDigest, IsBlock, IsBlockSeen, IsDigestSeen, IsMoved, IsOf, Keeps, Kept}
-use Rattle.vss_world.proofs.Words.{KeptSets, Line, ObjectNotFound, Op, Plan, Properties, PropertiesOf, ProviderValue, Query, Read, SessionsValue, SetFacts, SetRow, Stands, State, Told, WorldValue}
-use Rattle.vss_world.proofs.Words.{Write, blocks_of, facts_of, history_at as provided_at, history_of, image_block, image_blocks, is_complete, is_kept_set, kept, kept_image, kept_of, line}
-use Rattle.vss_world.proofs.Words.{none-some, point_in, properties, provided, row_number, row_of, sets_of, simple_outcome, state, true_from_ne_false, unwrap_or, used_by}
+use Rattle.vss_world.proofs.Words.{Act, Clean, Coded, Evicted, Ghosts, HasImage, IfStandFor, IfStands, ImageBlock, ImageDigest, IsBlock, IsBlockSeen}
+use Rattle.vss_world.proofs.Words.{IsDigestSeen, IsMoved, IsOf, Keeps, Kept, KeptSets, Line, ObjectNotFound, Op, Plan, Properties, PropertiesOf, ProviderValue}
+use Rattle.vss_world.proofs.Words.{Query, Read, SessionsValue, SetFacts, SetRow, Stands, State, Told, WorldValue, blocks_of, facts_of}
+use Rattle.vss_world.proofs.Words.{history_at as provided_at, history_of, image_block, image_blocks, is_complete, is_kept_set, kept, kept_image, kept_of, line}
+use Rattle.vss_world.proofs.Words.{point_in, properties, row_number, row_of, sets_of, simple_outcome, state, unwrap_or, used_by}
 use Rattle.vss_model.specs.declared.told.Told.TheVariants as told
 use Rattle.vss_world.proofs.Options.{none_is, some_is}
 use Rattle.vss_world.proofs.Kept.{not_complete, not_standing, kept_is}
 use Rattle.vss_world.proofs.Moved.{world_of, in_order}
-use Rattle.vss_world.proofs.OnProvided.{writes_at, point_at}
 use Rattle.vss_world.proofs.Seen.{IsPlain, block_moves, digest_moves, answered_moves, refused_moves}
-use Rattle.vss_world.proofs.ToCome.{used_by_at}
 
 -- ## images
 
@@ -26,13 +25,9 @@ image_parts st n v o p k e f g = grind arith
 pub of_image : (st : State) (n v : ℕ) (k : Kept) → kept_image st n v ≡ Some k → IsOfImage st n v k
 of_image st n v k e = image_parts st n v (row_of st n) (point_in n (history_of st v).images) k refl refl e
 
--- the set of an image that is kept is complete
-set_complete : (st : State) (n v : ℕ) (k : Kept) → kept_image st n v ≡ Some k → is_kept_set st n ≡ true
-set_complete st n v k e = true_from_ne_false (is_kept_set st n) (λ f. none-some k (sym (not_complete st n v f) ∙ e))
-
 -- the provider has an image that is kept
-pub provided_point : (s : Plan) (acts : List Act) (n v : ℕ) (k : Kept) → kept_image (state s acts) n v ≡ Some k → point_in n (provided_at (provided (state s acts)) v).images ≡ Some k.point
-provided_point s acts n v k e = grind (arith, point_at, in_order, set_complete, of_image)
+pub provided_point : (s : Plan) (acts : List Act) (n v : ℕ) (k : Kept) → kept_image (state s acts) n v ≡ Some k → point_in n (history_of (state s acts) v).images ≡ Some k.point
+provided_point s acts n v k e = (of_image (state s acts) n v k e).point
 
 -- at each state, whether the image is kept
 abbrev pub IsKeptIf : {D : Type 0} → (D → Option (List (List ℕ))) → WorldValue D → Plan → ℕ → ℕ → Bool → Type 0
@@ -50,7 +45,7 @@ pub kept_if_stands : {D : Type 0} {told : D → Option (List (List ℕ))} {s : P
 kept_if_stands {s = s} {has = has} n v is stood acts stands =
     let st = state s acts in
     let complete : is_kept_set st n ≡ true = sym (is st stands.at.sessions) in
-    by_answer has (ap is_some (sym (point_at st n v (in_order s acts).numbered complete)) ∙ stood (provided st) stands.at.groups) complete
+    by_answer has (stood st.volumes stands.at.groups) complete
   where
     by_answer : (b : Bool) → is_some (point_in n (history_of (state s acts) v).images) ≡ b → is_kept_set (state s acts) n ≡ true → is_some (kept_image (state s acts) n v) ≡ b
     by_answer true has complete = ap is_some (kept_is (state s acts) n v (in_order s acts).numbered complete has).is
@@ -58,7 +53,7 @@ kept_if_stands {s = s} {has = has} n v is stood acts stands =
 
 -- an image that does not stand is not kept
 none_stands : {D : Type 0} {told : D → Option (List (List ℕ))} {s : Plan} {w : WorldValue D} (n v : ℕ) → HasImage told s w.provider.groups v n false → IsKeptIf told w s n v false
-none_stands n v stood acts stands = grind (arith, not_complete, not_standing, point_at, in_order)
+none_stands n v stood acts stands = grind (arith, not_complete, not_standing)
 
 -- a set of which nothing is told keeps no image
 pub without_facts : {D : Type 0} {told : D → Option (List (List ℕ))} {s : Plan} {w : WorldValue D} {facts : Option SetFacts} (n v : ℕ) → facts ≡ None
@@ -90,7 +85,7 @@ module _ {D : Type 0} (device : Ghosts D) {s : Plan} {p : ProviderValue D} {x : 
       block_moves device of none (record { on = λ st. refl; clean = λ st. refl; none = λ st. refl; nobody = λ st. refl }) refl b answer within.0
       (λ acts stands. let st = state s acts in record {
         point = length (history_of st v).writes;
-        is_point = ap (λ (ws : List Write). length ws) (sym (writes_at st v));
+        is_point = refl;
         reads = λ mark. refl;
         faults = refl;
       }) seen
@@ -162,8 +157,7 @@ module _ {D : Type 0} (device : Ghosts D) {s : Plan} {p : ProviderValue D} {x : 
       let number : k.0.row.number ≡ n = row_number n st.sets k.0.row of_it.row_is in
       let h = history_of st v in
       let used_as : used ≡ unwrap_or (used_by (blocks_of s v) h.writes h.images k.0.row.number) 0 =
-      used_is (provided st) stands.at.groups ∙ ap (λ (o : Option ℕ). unwrap_or o 0) (used_by_at s acts n v (blocks_of s v) (set_complete st n v k.0 k.1))
-      ∙ ap (λ (m : ℕ). unwrap_or (used_by (blocks_of s v) h.writes h.images m) 0) (sym number) in
+      used_is st.volumes stands.at.groups ∙ ap (λ (m : ℕ). unwrap_or (used_by (blocks_of s v) h.writes h.images m) 0) (sym number) in
       record {
         allowed = refl;
         said = PropertiesOf k.0.row.context (unwrap_or k.0.row.cut_at 0) (unwrap_or (used_by (blocks_of s v) h.writes h.images k.0.row.number) 0);

@@ -1,8 +1,9 @@
 -- A move, from what it does to the devices and what it comes to at each state.
 use Rattle.std.proofs.Common.{◌≡◌, ℕ, ◌+◌, ◌≤◌, List, [], ◌∷◌, ◌++◌, length, refl, sym, ◌∙◌, subst, arith, Bool, true, false, Option, map, Some}
-use Rattle.vss_world.proofs.Words.{Act, AreGroups, AreKept, Cause, Event, Evicted, Ghosts, GroupValue, HasCause, IsInOrder, IsMoved, IsOf, IsOutcome, IsPrepared, Leaves, Outcome}
-use Rattle.vss_world.proofs.Words.{Plan, ProviderValue, RoseFor, SessionsValue, Stands, StandsAt, State, WorldValue, WriterRow, after, counts_of, devices_of, enabled, event_allows}
-use Rattle.vss_world.proofs.Words.{is_fault, later_by, later_same, length-append, mark_of, orderly, provided, state, state-append, tells_of, told_act, true_not_false, volume_of}
+use Rattle.vss_world.proofs.Words.{Act, AreGroups, AreKept, Cause, Event, Evicted, Ghosts, GroupValue, HasCause, IsInOrder, IsMoved, IsOf, IsOutcome}
+use Rattle.vss_world.proofs.Words.{IsPrepared, Leaves, Outcome, Plan, ProviderValue, RoseFor, SessionsValue, Stands, StandsAt, State, WorldValue, WriterRow}
+use Rattle.vss_world.proofs.Words.{after, counts_of, devices_of, enabled, event_allows, is_fault, later_by, later_same, length-append, mark_of, orderly, state}
+use Rattle.vss_world.proofs.Words.{state-append, tells_of, told_act, true_not_false, volume_of}
 use Rattle.vss_world.specs.Words.{IsOf as IsSessionsOf}
 use Rattle.provider.proofs.Words.{AreLater}
 
@@ -14,7 +15,7 @@ world_of p x l e = record { devices = devices_of p.groups; listed = l; evicted =
 
 -- what the provider prepares at a state, and has of its volumes
 abbrev pub IsProviderAt : {D : Type 0} → (D → Option (List (List ℕ))) → Plan → ProviderValue D → State → Type 0
-IsProviderAt told s p st = IsPrepared p st × AreGroups told s p.groups (provided st)
+IsProviderAt told s p st = IsPrepared p st × AreGroups told s p.groups st.volumes
 
 pub in_order : (s : Plan) (acts : List Act) → IsInOrder (state s acts)
 in_order s acts = let o = orderly s acts in record { numbered = o.numbered; newest = o.newest; session = o.session }

@@ -1,16 +1,13 @@
 -- The set that the provider prepares is the one in progress, after each move of the sessions too.
-use Rattle.std.proofs.Common.{◌≡◌, ℕ, zero, suc, ◌+◌, ◌<◌, ◌≤◌, ◌==◌, List, [], ◌∷◌, ◌++◌, refl, ap, sym, ◌∙◌, subst, arith, Bool, true, false, Option, Some, None, inl, inr, map, slice_get, find, not}
-use Rattle.std.proofs.Common.{◌&&◌}
-use Rattle.vss_world.proofs.Words.{Act, Agenda, AllLive, AreGroups, AreKept, AreLive, Complete, EndsAs, Failed, Ghosts, History, Image, IsEnded, IsEndedAs, IsPrepared, IsReleased}
-use Rattle.vss_world.proofs.Words.{IsSettled, NumberedFrom, Plan, ProviderValue, Running, SessionMove, SetOutcome, SetRow, State, comes, counts_of, cut_each, cut_if, devices_of, dropped}
-use Rattle.vss_world.proofs.Words.{ended_of, eqb-true, failed_set, has_failed, history_in, image_runs, images_after, in_progress, is_among, is_live, is_running, is_snapshot, is_to_come}
-use Rattle.vss_world.proofs.Words.{kept_same, kept_trans, nat_tests, none_over, number_of, number_prepared, orderly, plain, point_in, provided, provided_of, state, true_not_false, volumes_of, without}
-use Rattle.vss_world.proofs.Words.{without_images, without_set}
+use Rattle.std.proofs.Common.{◌≡◌, ℕ, zero, suc, ◌+◌, ◌<◌, ◌≤◌, ◌==◌, List, [], ◌∷◌, ◌++◌, refl, ap, sym, ◌∙◌, subst, arith, Bool, true, false, Option, Some}
+use Rattle.std.proofs.Common.{None, inl, inr, map, length, slice_get, find, not, ◌&&◌, if◌then◌else◌}
+use Rattle.vss_world.proofs.Words.{Act, Agenda, AllLive, AreGroups, AreKept, AreLive, Complete, EndsAs, Failed, Ghosts, History, Image, IsEnded, IsEndedAs}
+use Rattle.vss_world.proofs.Words.{IsPrepared, IsReleased, IsSettled, NumberedFrom, Plan, ProviderValue, Running, SessionMove, SetOutcome, SetRow, State}
+use Rattle.vss_world.proofs.Words.{counts_of, change_at, cut as history_cut, devices_of, dropped, ended_of, eqb-true, failed_set, has_failed, history_in}
+use Rattle.vss_world.proofs.Words.{image_runs, images_after, in_progress, is_live, is_running, is_snapshot, kept_same, kept_trans, nat_tests, none_over}
+use Rattle.vss_world.proofs.Words.{number_prepared, orderly, plain, point_in, state, true_not_false, volumes_of, without_images, without_set}
 use Rattle.vss_world.proofs.Options.{none_from}
-use Rattle.vss_world.proofs.SetGoesOn.{skip, GoesBy, StaysOn, IsOver, IsOverIf, IsSameSet, runs_snapshot}
-use Rattle.vss_world.proofs.Unnamed.{without_none}
-use Rattle.vss_world.proofs.WithoutImages.{dropped_apart, dropped_without, map_without, none_without, nothing_without, without_like}
-use Rattle.vss_world.proofs.ToCome.{all_provided}
+use Rattle.vss_world.proofs.SetGoesOn.{skip, GoesOn, StaysOn, IsOver, IsOverIf, IsSameSet, runs_snapshot}
 
 -- ## where nothing changes
 
@@ -23,9 +20,8 @@ prepared_none p st volumes set none = grind arith
 pub volumes_same : (o p : Option SetRow) → IsSameSet o p → volumes_of o ≡ volumes_of p
 volumes_same o p same = grind arith
 
-pub prepared_stays : {D : Type 0} (p : ProviderValue D) (st next : State) (test : ℕ → Bool) → StaysOn test st.course.agenda next.course.agenda (in_progress st) (in_progress next) → IsPrepared p st
-    → IsPrepared p next
-prepared_stays p st next test stays h = grind arith
+pub prepared_stays : {D : Type 0} (p : ProviderValue D) (st next : State) → StaysOn st.course.agenda next.course.agenda (in_progress st) (in_progress next) → IsPrepared p st → IsPrepared p next
+prepared_stays p st next stays h = grind arith
 
 -- ## images of no set
 
@@ -69,13 +65,10 @@ above_append : (images : List Image) (n p : ℕ) → 0 < n → AreAbove images �
 above_append [] n p l h = (l, tt)
 above_append (i ∷ images) n p l h = (h.0, above_append images n p l h.1)
 
-pub cut_above : (n : ℕ) (vs : List ℕ) (v : ℕ) (hs : List History) → 0 < n → NoneOfZero hs → NoneOfZero (cut_each n vs v hs)
-cut_above n vs v [] l h = tt
-cut_above n vs v (x ∷ hs) l h = (by_test (is_among v vs), cut_above n vs (v + 1) hs l h.1)
-  where
-    by_test : (b : Bool) → AreAbove (cut_if b n x).images
-    by_test true = above_append x.images n _ l h.0
-    by_test false = h.0
+pub image_above : (n v : ℕ) (hs : List History) → 0 < n → NoneOfZero hs → NoneOfZero (change_at v (history_cut n) hs)
+image_above n v [] l h = tt
+image_above n zero (x ∷ hs) l h = (above_append x.images n (length x.writes) l h.0, h.1)
+image_above n (suc v) (x ∷ hs) l h = (h.0, image_above n v hs l h.1)
 
 without_zero : (images : List Image) → AreAbove images → without_set 0 images ≡ images
 without_zero [] h = refl
@@ -87,6 +80,15 @@ zero_dropped (x ∷ hs) h = ap (λ (is : List Image). record { writes = x.writes
     ∙ ap (λ (ks : List History). x ∷ ks) (zero_dropped hs h.1)
 
 -- ## images of the set in progress
+
+without_none : (n : ℕ) (images : List Image) → point_in n images ≡ None → without_set n images ≡ images
+without_none n [] e = refl
+without_none n (i ∷ images) e = by_test (i.set == n) e (without_none n images)
+  where
+    by_test : (b : Bool) → (if b then Some i.point else point_in n images) ≡ None → (point_in n images ≡ None → without_set n images ≡ images)
+        → (if not b then i ∷ without_set n images else without_set n images) ≡ i ∷ images
+    by_test true f rest = cc
+    by_test false f rest = ap (λ (is : List Image). i ∷ is) (rest f)
 
 nothing_dropped : (n : ℕ) (hs : List History) → ((k : ℕ) (h : History) → slice_get hs k ≡ Some h → point_in n h.images ≡ None) → map (dropped n) hs ≡ hs
 nothing_dropped n [] none = refl
@@ -110,143 +112,84 @@ number_dropped s acts r e = grind (arith, zero_dropped, none_of_zero, before_sna
 pub runs_number : (r : SetRow) (a : Option Agenda) → runs_snapshot a ≡ true → number_prepared (Some r) a ≡ r.number
 runs_number r a e = grind arith
 
-plain_coming : (a : Option Agenda) → runs_snapshot a ≡ false → (v : ℕ) → is_to_come a v ≡ false
-plain_coming a e v = grind arith
-
--- where no snapshot's agenda runs the provider has all images
-pub plain_provided : (st : State) → runs_snapshot st.course.agenda ≡ false → provided st ≡ st.volumes
-plain_provided st e = all_provided (in_progress st) st.course.agenda st.volumes (plain_coming st.course.agenda e)
-
--- it names them among those that the provider has, too
-pub provided_dropped : (s : Plan) (acts : List Act) (r : SetRow) → in_progress (state s acts) ≡ Some r
-    → map (dropped (number_prepared (Some r) (state s acts).course.agenda)) (provided (state s acts)) ≡ map (dropped r.number) (state s acts).volumes
-provided_dropped s acts r e = grind (arith, runs_number, dropped_without, plain_provided, number_dropped)
-
--- the set in progress has images on its volumes alone
-pub no_image_elsewhere : (s : Plan) (acts : List Act) (r : SetRow) (k : ℕ) (h : History) → in_progress (state s acts) ≡ Some r → slice_get (state s acts).volumes k ≡ Some h
-    → is_among k r.volumes ≡ false → without_set r.number h.images ≡ h.images
-no_image_elsewhere s acts r k h e at out = without_none r.number h.images (none_from (point_in r.number h.images)
-    (λ p f. true_not_false (is_among k r.volumes) (image_runs s acts r k p e (ap (λ (x : History). point_in r.number x.images) (ap history_in at) ∙ f)).among out))
-
--- what the provider has, by the set in progress
-pub provided_at : (st : State) (r : SetRow) → in_progress st ≡ Some r → provided st ≡ without (is_to_come st.course.agenda) r.number st.volumes
-provided_at st r e = ap (λ (o : Option SetRow). provided_of o st.course.agenda st.volumes) e
-
 -- ## a move of the sessions
 
 -- the set in progress is over after a move
-pub record EndsHere (st next : State) (test : ℕ → Bool) (n : ℕ) (result : SetOutcome) : Type 0 where
+pub record EndsHere (st next : State) (n : ℕ) (result : SetOutcome) : Type 0 where
   pub row : SetRow
   pub is : in_progress st ≡ Some row
   pub number : suc n ≡ row.number
   pub over : is_running result ≡ false
   pub none : in_progress next ≡ None
-  pub committed : has_failed result ≡ false → (v : ℕ) → is_among v row.volumes ≡ true → test v ≡ false
 
--- what is known of a move: the volumes that its event made, those that the provider has of them, and what becomes of the set
-pub record IsSetMove {D : Type 0} (p : ProviderValue D) (st next : State) (test : ℕ → Bool) (base made : List History) : Type 0 where
-  pub goes : GoesBy test st next
+-- what is known of a move: the volumes that its event made, and what becomes of the set
+pub record IsSetMove {D : Type 0} (p : ProviderValue D) (st next : State) (made : List History) : Type 0 where
+  pub goes : GoesOn st next
   pub numbered : NumberedFrom 1 next.sets
   pub prepared : IsPrepared p st
   pub above : NoneOfZero made
-  pub same : (r : SetRow) → in_progress st ≡ Some r → map (dropped p.set) base ≡ map (dropped r.number) made
-  pub none : in_progress st ≡ None → base ≡ made
-  pub coming : (r : SetRow) → in_progress st ≡ Some r → base ≡ without test r.number made
-  -- the set has no image elsewhere
-  pub elsewhere : (r : SetRow) (k : ℕ) (h : History) → in_progress st ≡ Some r → slice_get made k ≡ Some h → is_among k r.volumes ≡ false → without_set r.number h.images ≡ h.images
+  pub same : (r : SetRow) → in_progress st ≡ Some r → map (dropped p.set) made ≡ map (dropped r.number) made
 
-module _ {D : Type 0} (device : Ghosts D) (s : Plan) (p : ProviderValue D) (st next : State) (test : ℕ → Bool) (base made : List History) (is : IsSetMove p st next test base made)
-    (groups : AreGroups device.told s p.groups base) where
-  -- what the provider has of histories after the move
-  abbrev kept_of : List History → List History
-  kept_of hs = provided_of (in_progress next) next.course.agenda hs
-
+module _ {D : Type 0} (device : Ghosts D) (s : Plan) (p : ProviderValue D) (st next : State) (made : List History) (is : IsSetMove p st next made)
+    (groups : AreGroups device.told s p.groups made) where
   abbrev Comes : SetOutcome → ℕ → ProviderValue D → Type 0
-  Comes result n q = IsPrepared q next × AreGroups device.told s q.groups (kept_of (without_images (failed_set result n) made))
-
-  none_left : in_progress next ≡ None → (hs : List History) → kept_of hs ≡ hs
-  none_left none hs = ap (λ (o : Option SetRow). provided_of o next.course.agenda hs) none ∙ none_without (λ v. false) 0 hs (λ v. refl)
-
-  same_there : (o x : Option SetRow) → in_progress st ≡ o → in_progress next ≡ x → IsSameSet o x → ((v : ℕ) → is_to_come next.course.agenda v ≡ test v) → base ≡ kept_of made
-  same_there None None e f same coming = is.none e ∙ sym (none_left f made)
-  same_there None (Some q) e f same coming = absurd same
-  same_there (Some r) None e f same coming = absurd same
-  same_there (Some r) (Some q) e f same coming =
-      is.coming r e ∙ sym (without_like (is_to_come next.course.agenda) test r.number made coming) ∙ ap (λ (n : ℕ). without (is_to_come next.course.agenda) n made) (sym same.0)
-      ∙ sym (ap (λ (o : Option SetRow). provided_of o next.course.agenda made) f)
+  Comes result n q = IsPrepared q next × AreGroups device.told s q.groups (without_images (failed_set result n) made)
 
   zero_ends : (x : Option SetRow) (result : SetOutcome) → EndsAs x 0 result → x ≡ None
   zero_ends x result h = grind arith
 
-  none_ends_here : (o : Option SetRow) → in_progress st ≡ o → IsOverIf test o next.sets → ended_of o next.sets ≡ None → o ≡ None
+  none_ends_here : (o : Option SetRow) → in_progress st ≡ o → IsOverIf o next.sets → ended_of o next.sets ≡ None → o ≡ None
   none_ends_here o e over none = grind arith
 
   nothing_ends : (result : SetOutcome) (q : ProviderValue D) → q ≡ p → EndsAs (ended_of (in_progress st) next.sets) 0 result → Comes result 0 q
-  nothing_ends result q same ends = grind (arith, same_there, none_ends_here, zero_ends, none_left, prepared_stays, prepared_none, zero_dropped)
+  nothing_ends result q same ends = grind (arith, none_ends_here, zero_ends, prepared_stays, prepared_none, zero_dropped)
 
   -- a set that ends is not in progress any more
-  gone_from : (n : ℕ) (result : SetOutcome) (o : Option SetRow) → in_progress st ≡ o → EndsAs (ended_of o next.sets) (suc n) result → EndsHere st next test n result
+  gone_from : (n : ℕ) (result : SetOutcome) (o : Option SetRow) → in_progress st ≡ o → EndsAs (ended_of o next.sets) (suc n) result → EndsHere st next n result
   gone_from n result None e ends = cc
   gone_from n result (Some r) e ends = by_way is.goes
     where
-      by_way : GoesBy test st next → EndsHere st next test n result
+      by_way : GoesOn st next → EndsHere st next n result
       by_way (inl stays) = by_set (in_progress next) refl (subst (λ (x : Option SetRow). IsSameSet x (in_progress next)) e stays.set)
         where
-          by_set : (x : Option SetRow) → in_progress next ≡ x → IsSameSet (Some r) x → EndsHere st next test n result
+          by_set : (x : Option SetRow) → in_progress next ≡ x → IsSameSet (Some r) x → EndsHere st next n result
           by_set None f same = absurd same
           by_set (Some q) f same =
               let none : ended_of (Some r) next.sets ≡ None = ap (λ (m : ℕ). find (λ (z : SetRow). (z.number == m) && not (is_running z.result)) next.sets) (sym same.0)
               ∙ none_over 1 next.sets q is.numbered f in
               absurd (let h = subst (λ (x : Option SetRow). EndsAs x (suc n) result) none ends in cc)
       by_way (inr over) =
-          let o : IsOver test r next.sets = subst (λ (x : Option SetRow). IsOverIf test x next.sets) e over.over in
+          let o : IsOver r next.sets = subst (λ (x : Option SetRow). IsOverIf x next.sets) e over.over in
           let h = subst (λ (x : Option SetRow). EndsAs x (suc n) result) o.ended ends in
-          record { row = r; is = e; number = h.0 ∙ o.number; over = ap is_running h.1 ∙ o.over; none = over.none; committed = λ fine v among. o.committed (ap has_failed (sym h.1) ∙ fine) v among }
-
-  -- none of its images is to come any more
-  all_there : (r : SetRow) → in_progress st ≡ Some r → ((v : ℕ) → is_among v r.volumes ≡ true → test v ≡ false) → base ≡ made
-  all_there r e committed = is.coming r e ∙ nothing_without test r.number made (λ k h at coming. by_test k h at coming (is_among k r.volumes) refl)
-    where
-      by_test : (k : ℕ) (h : History) → slice_get made k ≡ Some h → test k ≡ true → (b : Bool) → is_among k r.volumes ≡ b → without_set r.number h.images ≡ h.images
-      by_test k h at coming true f = absurd (true_not_false (test k) coming (committed k f))
-      by_test k h at coming false f = is.elsewhere r k h e at f
+          record { row = r; is = e; number = h.0 ∙ o.number; over = ap is_running h.1 ∙ o.over; none = over.none }
 
   one_ends : (n : ℕ) (result : SetOutcome) (q : ProviderValue D) → IsEndedAs device result p q → EndsAs (ended_of (in_progress st) next.sets) (suc n) result → Comes result (suc n) q
   one_ends n Running q h ends = let g = (gone_from n Running (in_progress st) refl ends).over in cc
   one_ends n Complete q h ends =
       let g = gone_from n Complete (in_progress st) refl ends in
-      subst (λ (z : ProviderValue D). Comes Complete (suc n) z) (sym h) (
-        prepared_none (record { groups = p.groups; set = 0; volumes = [] }) next refl refl g.none,
-        subst (AreGroups device.told s p.groups)
-            (all_there g.row g.is (g.committed refl) ∙ sym (none_left g.none made)) groups,
-      )
+      subst (λ (z : ProviderValue D). Comes Complete (suc n) z) (sym h) (prepared_none (record { groups = p.groups; set = 0; volumes = [] }) next refl refl g.none, groups)
   one_ends n (Failed why) q h ends =
       let g = gone_from n (Failed why) (in_progress st) refl ends in (
         prepared_none q next (ap (λ (z : ProviderValue D). z.volumes) h.2) (ap (λ (z : ProviderValue D). z.set) h.2) g.none,
-        subst (AreGroups device.told s q.groups) (is.same g.row g.is ∙ ap (λ (m : ℕ). map (dropped m) made) (sym g.number) ∙ sym (none_left g.none (map (dropped (suc n)) made)))
-            (h.1.stands s base groups),
+        subst (AreGroups device.told s q.groups) (is.same g.row g.is ∙ ap (λ (m : ℕ). map (dropped m) made) (sym g.number)) (h.1.stands s made groups),
       )
 
   ended_comes : (n : ℕ) (result : SetOutcome) (q : ProviderValue D) → IsEnded device n result p q → EndsAs (ended_of (in_progress st) next.sets) n result → Comes result n q
   ended_comes zero result q h ends = nothing_ends result q h ends
   ended_comes (suc n) result q h ends = one_ends n result q h ends
 
-  released_comes : (o : Option ℕ) (q r : ProviderValue D) (hs : List History) → IsReleased device o q r → IsPrepared q next → AreGroups device.told s q.groups (kept_of hs)
-      → IsPrepared r next × AreGroups device.told s r.groups (kept_of (without_images o hs))
-  released_comes None q r hs h prepared stand = subst (λ (z : ProviderValue D). IsPrepared z next × AreGroups device.told s z.groups (kept_of hs)) (sym h) (prepared, stand)
-  released_comes (Some n) q r hs h prepared stand = (
-    prepared_same q r next h.2 prepared,
-    subst (AreGroups device.told s r.groups) (map_without (comes (in_progress next) next.course.agenda) (number_of (in_progress next)) (dropped n) (dropped_apart n (number_of (in_progress next))) hs)
-        (h.1.stands s (kept_of hs) stand),
-  )
+  released_comes : (o : Option ℕ) (q r : ProviderValue D) (hs : List History) → IsReleased device o q r → IsPrepared q next → AreGroups device.told s q.groups hs
+      → IsPrepared r next × AreGroups device.told s r.groups (without_images o hs)
+  released_comes None q r hs h prepared stand = subst (λ (z : ProviderValue D). IsPrepared z next × AreGroups device.told s z.groups hs) (sym h) (prepared, stand)
+  released_comes (Some n) q r hs h prepared stand = (prepared_same q r next h.2 prepared, h.1.stands s hs stand)
 
   pub settled_comes : (m : SessionMove) (q : ProviderValue D) → IsSettled device m p q → EndsAs (ended_of (in_progress st) next.sets) m.outcome.set m.outcome.result
       → next.volumes ≡ images_after m made
-      → IsPrepared q next × AreGroups device.told s q.groups (provided next)
+      → IsPrepared q next × AreGroups device.told s q.groups next.volumes
   settled_comes m q h ends volumes =
       let e = ended_comes m.outcome.set m.outcome.result h.0 h.1 ends in
       let r = released_comes m.released h.0 q (without_images (failed_set m.outcome.result m.outcome.set) made) h.2 e.0 e.1 in
-      (r.0, subst (λ (hs : List History). AreGroups device.told s q.groups (kept_of hs)) (sym volumes) r.1)
+      (r.0, subst (AreGroups device.told s q.groups) (sym volumes) r.1)
 
 -- ## a move in which no set ends
 

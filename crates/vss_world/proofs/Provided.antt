@@ -1,7 +1,7 @@
 -- The number of the set in progress, and the volume of the provider's next step.
-use Rattle.std.proofs.Common.{◌≡◌, ℕ, ◌<◌, ◌==◌, List, [], ◌∷◌, length, refl, subst, arith, Bool, true, false, ◌||◌, Option, Some, IfSome}
-use Rattle.vss_world.proofs.Words.{Act, AreBelow, Evicted, IsInPlan, Plan, ProviderValue, SessionsValue, SetRow, Stands, State, current_kept, current_of, eqb-true, found_above, in_progress, is_among}
-use Rattle.vss_world.proofs.Words.{left_now, next_volume, orderly, state}
+use Rattle.std.proofs.Common.{◌≡◌, ℕ, ◌<◌, List, length, arith, Option, Some, IfSome}
+use Rattle.vss_world.proofs.Words.{Act, Evicted, IsInPlan, Plan, ProviderValue, SessionsValue, SetRow, Stands, State, current_kept, current_of, found_above}
+use Rattle.vss_world.proofs.Words.{in_progress, left_now, next_volume, orderly, state}
 use Rattle.vss_world.proofs.Moved.{world_of}
 use Rattle.vss_world.proofs.InPlan.{IsBelowIf, next_below}
 use Rattle.vss_world.proofs.Putting.{some_current}
@@ -23,11 +23,3 @@ below_some n o h = grind arith
 
 pub volume_within : (s : Plan) (st : State) (volume : Option ℕ) (n : ℕ) → IsInPlan s st → n ≡ length s.volumes → next_volume (left_now st) ≡ volume → IfSome volume (λ v. v < n)
 volume_within s st volume n plan long is = grind (arith, below_some, next_below)
-
-pub below_among : (n v : ℕ) (vs : List ℕ) → AreBelow n vs → is_among v vs ≡ true → v < n
-below_among n v [] h e = cc
-below_among n v (w ∷ vs) h e = by_test (w == v) refl e (λ g. below_among n v vs h.1 g)
-  where
-    by_test : (b : Bool) → (w == v) ≡ b → (b || is_among v vs) ≡ true → (is_among v vs ≡ true → v < n) → v < n
-    by_test true f g rest = subst (λ (u : ℕ). u < n) (eqb-true w v f) h.0
-    by_test false f g rest = rest g

@@ -1,35 +1,30 @@
 -- A write, against the acts: the images that it needs gone, and the set in progress that fails where its own goes.
-use Rattle.std.proofs.Common.{◌≡◌, ℕ, zero, suc, ◌<◌, ◌≤◌, ◌==◌, List, [], ◌∷◌, length, refl, ap, sym, ◌∙◌, subst, arith, Bool, true, false, Option, Some, None, map, slice_get}
+use Rattle.std.proofs.Common.{◌≡◌, ℕ, zero, suc, ◌<◌, ◌≤◌, ◌==◌, List, [], ◌∷◌, length, refl, ap, sym, ◌∙◌, subst, arith, Bool, true, false, Option, Some, None}
+use Rattle.std.proofs.Common.{filter, map, slice_get}
 use Rattle.std.specs.Prelude.{option_map, is_some, not, ◌&&◌, ◌||◌, if◌then◌else◌, Result, Ok, Err}
-use Rattle.std.proofs.lemmas.Bool.{and_parts, not-true}
-use Rattle.vss_model.specs.Words.{Act, Agenda, EndsAs, Evicted, Failed, Fits, HasLists, History, Image, InsufficientStorage, IsBlock, Mark, Op, Placed, Plan, Reply, Running, SetOutcome}
+use Rattle.vss_model.specs.Words.{Act, EndsAs, Evicted, Failed, Fits, HasLists, History, Image, InsufficientStorage, IsBlock, Mark, Op, Placed, Plan, Reply}
+use Rattle.vss_model.specs.Words.{Running, SetOutcome, SetRow, State, Write, WriterRow, act_of, after, change_at, dropped, ended_of, evicted, evicted_for}
+use Rattle.vss_model.specs.Words.{reply, going_up_to, gone_up_to, group_of, has_image, has_lost_image, history_in, in_progress, is_kept_set, is_running, left_now}
+use Rattle.vss_model.specs.Words.{line_allows, line_enabled, line_of, lost, lost_order_if, mark_of, may_write, order_now, placed, placed_in, point_in}
+use Rattle.vss_model.specs.Words.{reply_of_mark, set_loses_image, slots_of, state, written}
 use Rattle.vss_model.proofs.ByEvent.{reply_is}
 use Rattle.vss_model.proofs.Changes.{fails_now}
 use Rattle.vss_model.proofs.StateForm.{Replied, cleared, failed_in, images_dropped, line, put, with_room, with_room_if, write}
-use Rattle.vss_model.specs.Words.{SetRow, State, Write, WriterRow, act_of, acts_as, after, change_at, dropped, ended_of, evicted, evicted_for, reply}
-use Rattle.vss_model.specs.Words.{going_up_to, gone_up_to, group_of, has_image, has_lost_image, history_in, history_of, in_progress, is_free, is_held, is_running}
-use Rattle.vss_model.specs.Words.{left_now, line_allows, line_enabled, line_of, lost, lost_order_if, mark_of, may_write, order_now, placed, placed_in, point_in}
-use Rattle.vss_model.specs.Words.{reply_of_mark, set_loses_image, slots_of, state, written}
 use Rattle.vss_world.specs.Words.{IsFailed, IsInOrder, IsOf as IsSessionsOf, Keeps, Leaves, Line, Outcome, SessionsValue, current_of}
 use Rattle.provider.specs.Words.{Cause, Ghosts}
 use Rattle.vss_model.proofs.Words.{UpTo, image_runs, images_up_to, new-is, newest_number, none_after, orderly, some_rows}
 use Rattle.provider.proofs.Kept.{kept_same, kept_trans}
-use Rattle.provider.proofs.Words.{AreGroups, AreKept, AreWithout, HasCause, IsLastSet, IsPut, ProviderValue, counts_of, devices_of, fault_of}
+use Rattle.provider.proofs.Words.{AreGroups, AreKept, AreWithout, HasCause, IsLastSet, IsPut, ProviderValue, counts_of, devices_of, fault_of, images_going}
 use Rattle.provider.proofs.Words.{number_is as own_number, put_if, slice_get_inside, slice_get_map}
-use Rattle.vss_world.proofs.Words.{IfStands, IsBlocked, IsInPlan, IsMoved, IsOf, IsPrepared, IsWriteBy, IsWriteLine, MakesRoom, RoseFor, Stands, StandsAt, WorldValue, comes, current_kept, is_to_come}
-use Rattle.vss_world.proofs.Words.{no_row as none_current, number_of, number_prepared, provided, provided_of, simple_outcome, tells_of, told_if, volume_by}
+use Rattle.vss_world.proofs.Words.{IfStands, IsBlocked, IsInPlan, IsMoved, IsOf, IsPrepared, IsWriteBy, IsWriteLine, MakesRoom, RoseFor, Stands, StandsAt}
+use Rattle.vss_world.proofs.Words.{WorldValue, current_kept, no_row as none_current, number_prepared, simple_outcome, tells_of, told_if, volume_by}
 use Rattle.scenario.specs.declared.line.Line.{Line as Does}
 use Rattle.vss_world.proofs.Moved.{world_of, OfDevices, Comes, goes_on, leaves_of, in_order, moved, clean_devices, failed_devices, rose_for}
 use Rattle.vss_world.proofs.Simple.{LineComes, line_moves, after_line}
 use Rattle.vss_world.proofs.InPlan.{in_failed_in}
 use Rattle.vss_world.proofs.Losing.{AllUpTo, not_lost, lost_at, up_to_most}
-use Rattle.vss_world.proofs.KeptSets.{up_to_filter}
-use Rattle.vss_world.proofs.OnProvided.{on_provided}
 use Rattle.vss_world.proofs.Evictions.{evicted_is}
-use Rattle.vss_world.proofs.Clearing.{as_far, free_volume}
 use Rattle.vss_world.proofs.SetGoesOn.{runs_snapshot, failed_ends}
-use Rattle.vss_world.proofs.ToCome.{all_unnamed}
-use Rattle.vss_world.proofs.WithoutImages.{written_apart, change_without, dropped_without, gone_without, none_without}
 use Rattle.vss_world.proofs.Prepared.{prepared_same, prepared_none, runs_number}
 
 -- ## facts of every list of acts
@@ -48,13 +43,12 @@ in_up_to : (n m : ℕ) (images : List Image) → UpTo m images → is_some (poin
 in_up_to n m [] up h = absurd cc
 in_up_to n m (i ∷ images) up h = in_if (i.set == n) n m i.point i.set (point_in n images) refl up.0 h (in_up_to n m images up.1)
 
--- of the histories that the provider has, too, no image is of a later set
-last_provided : (s : Plan) (acts : List Act) → IsLastSet (length (state s acts).sets) (provided (state s acts))
-last_provided s acts u n x at has =
+-- no image is of a later set
+last_set : (s : Plan) (acts : List Act) → IsLastSet (length (state s acts).sets) (state s acts).volumes
+last_set s acts u n x at has =
     let st = state s acts in
     let o = orderly s acts in
-    let up_to = images_up_to st.sets st.volumes u o.numbered o.live in
-    let up = on_provided (λ (y : History). UpTo (length st.sets) y.images) st u up_to (λ r e coming. up_to_filter (λ i. not (i.set == r.number)) (length st.sets) (history_of st u).images up_to) in
+    let up = images_up_to st.sets st.volumes u o.numbered o.live in
     in_up_to n _ x.images (subst (λ (y : History). UpTo (length st.sets) y.images) (ap history_in at) up) has
 
 -- ## the line
@@ -132,12 +126,8 @@ put_devices {device = device} {s = s} {lane = lane} {op = op} {v = v} {p = p} {q
 put_sets : (done : Result Unit Cause) (v : ℕ) (w : Write) (st : State) → (put v w (mark_of (told_if done)) st).sets ≡ st.sets
 put_sets done v w st = grind arith
 
--- what the provider has of what was written
-put_provided : (done : Result Unit Cause) (v : ℕ) (w : Write) (o : Option SetRow) (a : Option Agenda) (hs : List History) → put_if done v w (provided_of o a hs) ≡ provided_of o a (put_if done v w hs)
-put_provided done v w o a hs = grind (arith, change_without, written_apart)
-
 put_parts : {D : Type 0} (blocks_told : D → Option (List (List ℕ))) (q : ProviderValue D) (x : SessionsValue) (s : Plan) (done : Result Unit Cause) (v : ℕ) (w : Write) (st : State)
-    → Keeps x st → IsInPlan s st → IsPrepared q st → AreGroups blocks_told s q.groups (provided_of (in_progress st) st.course.agenda (put_if done v w st.volumes))
+    → Keeps x st → IsInPlan s st → IsPrepared q st → AreGroups blocks_told s q.groups (put_if done v w st.volumes)
     → StandsAt blocks_told q x s (put v w (mark_of (told_if done)) st)
 put_parts blocks_told q x s done v w st k plan prepared groups = grind arith
 
@@ -183,23 +173,14 @@ module _ {D : Type 0} {device : Ghosts D} {s : Plan} {lane : ℕ} {op : Op} {v :
   abbrev tells : List Bool
   tells = tells_of device.told s (devices_of p.groups)
 
-  -- the histories that the provider has, where the volumes have these
-  abbrev of : List History → List History
-  of hs = provided_of (in_progress st) st.course.agenda hs
-
-  unheld : is_held st v ≡ false
-  unheld = not-true (is_held st v) (and_parts (not (is_held st v)) (is_free st (acts_as s lane)) on).0
-
   far : m ≡ going_up_to s v w.block st
-  far = h.makes.evicted (provided st) stands.at.groups (length st.sets) (last_provided s acts)
-      ∙ as_far (comes (in_progress st) st.course.agenda) (number_of (in_progress st)) (length st.sets) (slots_of s v) (group_of s v) v w.block st.volumes
-      (all_unnamed s acts) (free_volume s acts v unheld)
+  far = h.makes.evicted st.volumes stands.at.groups (length st.sets) (last_set s acts)
 
-  cleared_groups : AreGroups device.told s q.groups (of base.volumes)
-  cleared_groups = grind (arith, far, gone_without)
+  cleared_groups : AreGroups device.told s q.groups base.volumes
+  cleared_groups = grind (arith, far)
 
-  put_groups : AreGroups device.told s r.groups (of (put_if done v w base.volumes))
-  put_groups = grind (arith, put_provided, cleared_groups)
+  put_groups : AreGroups device.told s r.groups (put_if done v w base.volumes)
+  put_groups = grind (arith, cleared_groups)
 
   prepares : IsPrepared r st
   prepares = prepared_same q r st h.rest (prepared_same p q st h.makes.rest stands.at.prepared)
@@ -211,7 +192,10 @@ module _ {D : Type 0} {device : Ghosts D} {s : Plan} {lane : ℕ} {op : Op} {v :
   cleared_plan = let k = stands.at.plan in record { sets = k.sets; agenda = k.agenda; members = k.members; disabled = k.disabled }
 
   gone : f ≡ evicted_for s st v w.block
-  gone = grind (arith, far, evicted_is, orderly, up_to_most)
+  gone =
+      h.makes.kept st stands.at.sessions st.volumes stands.at.groups
+      ∙ ap (λ (n : ℕ). filter (λ (i : Evicted). is_kept_set st i.set) (images_going n (group_of s v) st.volumes)) far
+      ∙ evicted_is s v w.block st (orderly s acts).numbered (up_to_most _ (length st.sets))
 
   abbrev IsAnswered : Type 0
   IsAnswered = LineComes device.told s lane op (told_if done) tells r x l f st
@@ -284,16 +268,10 @@ module _ {D : Type 0} {device : Ghosts D} {s : Plan} {lane : ℕ} {op : Op} {v :
       let base_order : IsInOrder base = record { numbered = order.numbered; newest = order.newest; session = order.session } in
       let keeps : Keeps y over = subst (λ (o : Option SetRow). Keeps y (failed_in o InsufficientStorage base)) a.1 (subst (Keeps y) (fails_now InsufficientStorage base) (fails base base_order cleared_keeps)) in
       let none : in_progress over ≡ None = none_after (Some a.0) InsufficientStorage base a.1 in
-      let agenda = st.course.agenda in
       let wrote = put_if done v w base.volumes in
-      let groups : AreGroups device.told s z.groups (provided_of (in_progress over) over.course.agenda (put_if done v w over.volumes)) =
-      subst (λ (o : Option SetRow). AreGroups device.told s z.groups (provided_of o over.course.agenda (put_if done v w over.volumes))) (sym none)
-      (subst (AreGroups device.told s z.groups) (sym (none_without (λ k. false) 0 (put_if done v w over.volumes) (λ k. refl)))
-      (subst (λ (o : Option SetRow). AreGroups device.told s z.groups (put_if done v w (images_dropped o base.volumes))) (sym a.1)
-      (subst (AreGroups device.told s z.groups)
-      (ap (λ (j : ℕ). map (dropped j) (of wrote)) number_is ∙ ap (λ (o : Option SetRow). map (dropped a.0.number) (provided_of o agenda wrote)) a.1
-      ∙ dropped_without (is_to_come agenda) a.0.number wrote ∙ map_put done v w a.0.number base.volumes)
-      (without.stands s (of wrote) put_groups)))) in
+      let groups : AreGroups device.told s z.groups (put_if done v w over.volumes) =
+      subst (λ (o : Option SetRow). AreGroups device.told s z.groups (put_if done v w (images_dropped o base.volumes))) (sym a.1)
+      (subst (AreGroups device.told s z.groups) (ap (λ (j : ℕ). map (dropped j) wrote) number_is ∙ map_put done v w a.0.number base.volumes) (without.stands s wrote put_groups)) in
       let ends : ended_of (in_progress st) (put v w mark over).sets ≡ Some (record a.0 { result = Failed InsufficientStorage }) =
       ap (λ (o : Option SetRow). ended_of o (put v w mark over).sets) a.1 ∙ ap (ended_of (Some a.0)) (put_sets done v w over)
       ∙ failed_ends a.0 InsufficientStorage base order.numbered a.1 in

@@ -1,44 +1,19 @@
 -- Images that are deleted, and volumes that are brought back to one, against the definitions.
-use Rattle.std.proofs.Common.{◌≡◌, ℕ, suc, ◌+◌, ◌<◌, ◌≤◌, ◌==◌, List, [], ◌∷◌, length, refl, ap, sym, ◌∙◌, subst, arith, Bool, true, false, ◌&&◌, Option, Some, None, map, nat_lt}
+use Rattle.std.proofs.Common.{◌≡◌, ℕ, ◌<◌, ◌≤◌, List, [], length, refl, ap, sym, ◌∙◌, subst, arith, Bool, true, false, ◌&&◌, Option, Some, None, map, nat_lt}
 use Rattle.std.proofs.Common.{option_map, if◌then◌else◌, Ok, Err}
-use Rattle.vss_world.proofs.Words.{Act, AreGroups, AreWithout, Cause, Clean, DeleteImage, DeleteSet, Deleted, Evicted, FaultAfter, FaultedAfter, Fine, Ghosts, GroupValue, HasGroups, History}
-use Rattle.vss_world.proofs.Words.{IsDropped, IsMoved, IsOf, IsPlan, IsRevert, Keeps, Kept, Line, Mark, ObjectNotFound, Plan, ProviderValue, Revert, SessionsValue, SetFacts, SetRow}
-use Rattle.vss_world.proofs.Words.{SnapshotSetInProgress, Stands, State, UnsupportedContext, VssResult, Write, blocks_of, change_at, comes, count_images, count_within as few_images, delete_kept}
-use Rattle.vss_world.proofs.Words.{dropped, facts_of, has_image, history_at, history_of, in_progress, is_among, is_backup, is_in_set, is_kept_set, kept_image, lt-ltb, may_stop_after, number_of}
-use Rattle.vss_world.proofs.Words.{point_in, provided, refused, revert_refusal, revert_to, reverted, reverted_in_part, row_number, row_of, simple_outcome, state, to_restore, volumes_of}
-use Rattle.vss_world.proofs.Words.{without}
+use Rattle.vss_world.proofs.Words.{Act, AreGroups, AreWithout, Cause, Clean, DeleteImage, DeleteSet, Deleted, Evicted, FaultAfter, FaultedAfter, Fine, Ghosts}
+use Rattle.vss_world.proofs.Words.{GroupValue, HasGroups, History, IsDropped, IsMoved, IsOf, IsPlan, IsRevert, Keeps, Kept, Line, Mark, ObjectNotFound, Plan}
+use Rattle.vss_world.proofs.Words.{ProviderValue, Revert, SessionsValue, SetFacts, SetRow, SnapshotSetInProgress, Stands, State, UnsupportedContext, VssResult}
+use Rattle.vss_world.proofs.Words.{blocks_of, change_at, count_images, count_within as few_images, delete_kept, dropped, facts_of, history_of, is_among}
+use Rattle.vss_world.proofs.Words.{is_backup, is_in_set, is_kept_set, kept_image, lt-ltb, may_stop_after, point_in, refused, revert_refusal, revert_to}
+use Rattle.vss_world.proofs.Words.{reverted, reverted_in_part, row_number, row_of, simple_outcome, state, to_restore, volumes_of}
 use Rattle.provider.specs.Words.{Fault}
 use Rattle.vss_model.specs.declared.told.Told.TheVariants as told
 use Rattle.vss_model.proofs.StateForm.{delete_set, delete_image, revert}
-use Rattle.vss_world.proofs.Moved.{world_of, in_order}
-use Rattle.vss_world.proofs.OnProvided.{has_if, writes_at, other_set}
-use Rattle.vss_world.proofs.WithoutImages.{LeavesApart, filter_twice, dropped_apart, map_without, change_without}
+use Rattle.vss_world.proofs.Moved.{world_of}
 use Rattle.vss_world.proofs.Seen.{IsPlain, clean_moves, failed_moves, refused_moves}
 use Rattle.vss_world.proofs.Options.{some_is}
 use Rattle.vss_world.proofs.Looking.{IsKeptIf, IsOnImage, of_image, provided_point}
-
--- ## what the provider has
-
--- a volume was changed, whether the image that is to come is there or not
-changed_groups : {D : Type 0} {told : D → Option (List (List ℕ))} {s : Plan} {groups : List (GroupValue D)} (st : State) (v : ℕ) (f : History → History) → ((n : ℕ) → LeavesApart n f)
-    → AreGroups told s groups (change_at v f (provided st)) → AreGroups told s groups (provided (record st { volumes = change_at v f st.volumes }))
-changed_groups st v f apart are = grind (arith, change_without)
-
-reverted_apart : (m point n : ℕ) → LeavesApart n (reverted m point)
-reverted_apart m point n h = grind (arith, filter_twice)
-
-in_part_apart : (blocks m point k n : ℕ) → LeavesApart n (reverted_in_part blocks m point k)
-in_part_apart blocks m point k n h = grind (arith, filter_twice)
-
-count_without : (test : ℕ → Bool) (r n : ℕ) (hs : List History) → ((k : ℕ) → test k ≡ true → (r == n) ≡ false) → count_images n (without test r hs) ≡ count_images n hs
-count_without test r n [] apart = refl
-count_without test r n (h ∷ hs) apart =
-    ap (λ (b : Bool). (if b then 1 else 0) + count_images n (without (λ v. test (suc v)) r hs)) (has_if (test 0) r n h (apart 0))
-    ∙ ap (λ (k : ℕ). (if has_image n h then 1 else 0) + k) (count_without (λ v. test (suc v)) r n hs (λ k. apart (suc k)))
-
--- as many images of a complete set
-count_at : (s : Plan) (acts : List Act) (n : ℕ) → is_kept_set (state s acts) n ≡ true → count_images n (provided (state s acts)) ≡ count_images n (state s acts).volumes
-count_at s acts n complete = grind (arith, count_without, other_set, in_order)
 
 -- ## a set
 
@@ -92,7 +67,7 @@ record There (n v : ℕ) (backup preparing : Bool) (st : State) : Type 0 where
   is : kept_image st n v ≡ Some kept
   refusal : revert_refusal v (Some kept) st ≡ refusal_if backup preparing
   number : kept.row.number ≡ n
-  point : point_in n (history_at (provided st) v).images ≡ Some kept.point
+  point : point_in n (history_of st v).images ≡ Some kept.point
 
 may_stop : (s : Plan) (n v m : ℕ) (st : State) (k : Kept) → kept_image st n v ≡ Some k → revert_refusal v (Some k) st ≡ None → m < length (to_restore (blocks_of s v) (history_of st v).writes k.point)
     → may_stop_after s st v (kept_image st n v) m ≡ true
@@ -115,7 +90,7 @@ module _ {D : Type 0} (device : Ghosts D) {s : Plan} {p : ProviderValue D} {x : 
   module _ {n k : ℕ} {q : ProviderValue D} (is : (st : State) → Keeps x st → is_kept_set st n ≡ true) (without : AreWithout device p.groups q.groups n k)
       (rest : q ≡ record p { groups = q.groups }) where
     number_at : (acts : List Act) → Stands device.told (world_of p x l e) s acts → k ≡ count_images n (state s acts).volumes
-    number_at acts stands = let st = state s acts in without.number s of.groups (provided st) stands.at.groups ∙ count_at s acts n (is st stands.at.sessions)
+    number_at acts stands = without.number s of.groups (state s acts).volumes stands.at.groups
 
     pub set_none : {lane : ℕ} → k ≡ 0 → IsMoved device (world_of p x l e) (world_of q x l f) s (Line lane (DeleteSet n)) (simple_outcome (told.Result ObjectNotFound))
     set_none {lane = lane} zero_is =
@@ -134,9 +109,7 @@ module _ {D : Type 0} (device : Ghosts D) {s : Plan} {p : ProviderValue D} {x : 
           is = deleted_if n st true true (is st stands.at.sessions) (lt-ltb 0 (count_images n st.volumes) (subst (λ (m : ℕ). 0 < m) number some));
           fits = ap told.Deleted number;
           lists = λ rows. tt;
-          groups = subst (AreGroups device.told s q.groups)
-              (map_without (comes (in_progress st) st.course.agenda) (number_of (in_progress st)) (dropped n) (dropped_apart n (number_of (in_progress st))) st.volumes)
-              (without.stands s (provided st) stands.at.groups);
+          groups = without.stands s st.volumes stands.at.groups;
         })
 
   pub image_gone : {lane n v : ℕ} {q : ProviderValue D} → IsKeptIf device.told (world_of p x l e) s n v true → IsDropped device s p.groups q.groups v n true → q ≡ record p { groups = q.groups }
@@ -154,7 +127,7 @@ module _ {D : Type 0} (device : Ghosts D) {s : Plan} {p : ProviderValue D} {x : 
         is = image_deleted n v st (Some k.0) k.1 ∙ ap (λ (m : ℕ). (Deleted 1, record st { volumes = change_at v (dropped m) st.volumes })) number;
         fits = refl;
         lists = λ rows. tt;
-        groups = changed_groups st v (dropped n) (dropped_apart n) (drop.3 (provided st) stands.at.groups);
+        groups = drop.3 st.volumes stands.at.groups;
       })
 
   module _ (n v : ℕ) {facts : SetFacts} {c : Bool} (kept : IsKeptIf device.told (world_of p x l e) s n v c) (so : c ≡ true)
@@ -180,7 +153,7 @@ module _ {D : Type 0} (device : Ghosts D) {s : Plan} {p : ProviderValue D} {x : 
           is = revert_is s n v Clean st (Some k.kept) None k.is (k.refusal ∙ free) ∙ ap (λ (m : ℕ). (Fine, record st { volumes = change_at v (reverted m k.kept.point) st.volumes })) k.number;
           fits = refl;
           lists = λ rows. tt;
-          groups = changed_groups st v (reverted n k.kept.point) (reverted_apart n k.kept.point) (back.3 (provided st) stands.at.groups k.kept.point k.point);
+          groups = back.3 st.volumes stands.at.groups k.kept.point k.point;
         })
 
     pub revert_stopped : {lane m : ℕ} {q : ProviderValue D} (fault : Cause) → refusal_if backup preparing ≡ None → IsRevert device s p.groups q.groups v n (Err (Fault m fault))
@@ -191,14 +164,14 @@ module _ {D : Type 0} (device : Ghosts D) {s : Plan} {p : ProviderValue D} {x : 
         (λ acts stands.
         let st = state s acts in
         let k = there acts stands in
-        let part = back.3 (provided st) stands.at.groups k.kept.point k.point in
+        let part = back.3 st.volumes stands.at.groups k.kept.point k.point in
         record {
-          allowed = may_stop s n v m st k.kept k.is (k.refusal ∙ free) (subst (λ (ws : List Write). m < length (to_restore (blocks_of s v) ws k.kept.point)) (writes_at st v) part.0);
+          allowed = may_stop s n v m st k.kept k.is (k.refusal ∙ free) part.0;
           said = FaultedAfter m;
           volumes = change_at v (reverted_in_part (blocks_of s v) n k.kept.point m) st.volumes;
           is = revert_is s n v (FaultAfter m) st (Some k.kept) None k.is (k.refusal ∙ free)
               ∙ ap (λ (i : ℕ). (FaultedAfter m, record st { volumes = change_at v (reverted_in_part (blocks_of s v) i k.kept.point m) st.volumes })) k.number;
           fits = refl;
           lists = λ rows. tt;
-          groups = changed_groups st v (reverted_in_part (blocks_of s v) n k.kept.point m) (in_part_apart (blocks_of s v) n k.kept.point m) part.1;
+          groups = part.1;
         })

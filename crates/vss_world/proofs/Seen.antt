@@ -1,12 +1,13 @@
 -- What is read of volumes and images, against the definitions.
 use Rattle.std.proofs.Common.{◌≡◌, ℕ, ◌<◌, List, [], length, refl, sym, ◌∙◌, subst, Bool, true, false, Option, Some, slice_get, arith}
-use Rattle.vss_world.proofs.Words.{AreGroups, AreKept, BlockOf, BlocksOf, Cause, Clean, Coded, Evicted, Fault, Faulted, Fits, Ghosts, HasCause, HasLists, History, IfStands, IsBlockSeen, IsBlockTold}
-use Rattle.vss_world.proofs.Words.{IsBytes, IsDigestIf, IsDigestSeen, IsDigestTold, IsFingerprint, IsFirstIf, IsMoved, IsOf, IsPointOf, IsReading, IsWide, Line, Mark, Op, Plan, ProviderValue, RoseFor}
-use Rattle.vss_world.proofs.Words.{SessionsValue, State, Told, VssResult, Write, WriterRow, blocks_of, concat, content, contents, counts_of, devices_of, evicted, history_at, history_of, is_fault}
-use Rattle.vss_world.proofs.Words.{kept_same, line, line_allows, line_enabled, lost, mark_of, provided, read_as, sha256, simple_outcome, state, tells_of, tells_of-at, volume_by}
+use Rattle.vss_world.proofs.Words.{AreGroups, AreKept, BlockOf, BlocksOf, Cause, Clean, Coded, Evicted, Fault, Faulted, Fits, Ghosts, HasCause, HasLists}
+use Rattle.vss_world.proofs.Words.{History, IfStands, IsBlockSeen, IsBlockTold, IsBytes, IsDigestIf, IsDigestSeen, IsDigestTold, IsFingerprint, IsFirstIf}
+use Rattle.vss_world.proofs.Words.{IsMoved, IsOf, IsPointOf, IsReading, IsWide, Line, Mark, Op, Plan, ProviderValue, RoseFor, SessionsValue, State, Told}
+use Rattle.vss_world.proofs.Words.{VssResult, Write, WriterRow, blocks_of, concat, content, contents, counts_of, devices_of, evicted, history_of, is_fault}
+use Rattle.vss_world.proofs.Words.{kept_same, line, line_allows, line_enabled, lost, mark_of, read_as, sha256, simple_outcome, state, tells_of, tells_of-at}
+use Rattle.vss_world.proofs.Words.{volume_by}
 use Rattle.vss_model.specs.Words.{line_of, Reply}
 use Rattle.vss_model.specs.declared.told.Told.TheVariants as told
-use Rattle.vss_world.proofs.OnProvided.{writes_at}
 use Rattle.vss_world.proofs.Moved.{world_of, OfDevices, clean_devices, failed_devices, rose_for}
 use Rattle.vss_world.proofs.Simple.{line_moves, volumes_parts}
 
@@ -17,17 +18,17 @@ fits_seen : (t : Bool) (o : Option Bool) (bytes first digest : List ℕ) → o �
 fits_seen t o bytes first digest is shows wide = grind arith
 
 block_fits : {D : Type 0} (blocks_told : D → Option (List (List ℕ))) (s : Plan) (p : ProviderValue D) (v : ℕ) (set : Option ℕ) (b : ℕ) (first digest : List ℕ) (st : State) (point : ℕ)
-    → v < length s.volumes → AreGroups blocks_told s p.groups (provided st) → IsBlockTold blocks_told s p v set b first digest → IsPointOf set (history_at (provided st) v) point
+    → v < length s.volumes → AreGroups blocks_told s p.groups st.volumes → IsBlockTold blocks_told s p v set b first digest → IsPointOf set (history_of st v) point
     → Fits (tells_of blocks_told s (devices_of p.groups)) (BlockOf v (content (history_of st v).writes point b)) (told.Block first digest)
-block_fits blocks_told s p v set b first digest st point within groups seen is = grind (arith, fits_seen, tells_of-at, writes_at)
+block_fits blocks_told s p v set b first digest st point within groups seen is = grind (arith, fits_seen, tells_of-at)
 
 pub fits_digest : (t : Bool) (o : Option Bool) (bytes digest : List ℕ) → o ≡ Some t → (t ≡ true → digest ≡ sha256 bytes) → length digest ≡ 32 → IsBytes digest → IsDigestIf o bytes digest
 fits_digest t o bytes digest is shows long are = grind arith
 
 pub digest_slot : {D : Type 0} (blocks_told : D → Option (List (List ℕ))) (s : Plan) (p : ProviderValue D) (v : ℕ) (set : Option ℕ) (digest : List ℕ) (st : State) (point : ℕ)
-    → v < length s.volumes → AreGroups blocks_told s p.groups (provided st) → IsDigestTold blocks_told s p.groups v set digest → IsPointOf set (history_at (provided st) v) point
+    → v < length s.volumes → AreGroups blocks_told s p.groups st.volumes → IsDigestTold blocks_told s p.groups v set digest → IsPointOf set (history_of st v) point
     → IsDigestIf (slice_get (tells_of blocks_told s (devices_of p.groups)) v) (concat (contents (blocks_of s v) (history_of st v).writes point)) digest
-digest_slot blocks_told s p v set digest st point within groups seen is = grind (arith, fits_digest, tells_of-at, writes_at)
+digest_slot blocks_told s p v set digest st point within groups seen is = grind (arith, fits_digest, tells_of-at)
 
 -- ## lines that change at most the volumes
 
@@ -46,12 +47,12 @@ pub record Says {D : Type 0} (told : D → Option (List (List ℕ))) (s : Plan) 
   pub is : line s lane op (mark_of answer) st ≡ (said, record st { volumes = volumes })
   pub fits : Fits (tells_of told s (devices_of old.groups)) said answer
   pub lists : (rows : List WriterRow) → HasLists said listed_sets rows
-  pub groups : AreGroups told s new.groups (provided (record st { volumes = volumes }))
+  pub groups : AreGroups told s new.groups volumes
 
 -- what a line reads of a volume in a state, as it is or as an image shows it
 pub record Shows {X : Type 0} (s : Plan) (lane : ℕ) (op : Op) (reply_of : X → Reply) (of : List Write → ℕ → X) (v : ℕ) (set : Option ℕ) (st : State) : Type 0 where
   pub point : ℕ
-  pub is_point : IsPointOf set (history_at (provided st) v) point
+  pub is_point : IsPointOf set (history_of st v) point
   pub reads : (mark : Mark) → line s lane op mark st ≡ (read_as mark (reply_of (of (history_of st v).writes point)), st)
   pub faults : line_allows s st op Fault ≡ true
 
@@ -122,7 +123,7 @@ module _ {D : Type 0} (device : Ghosts D) {s : Plan} {p : ProviderValue D} {x : 
           is = shown.reads Fault;
           fits = refl;
           lists = λ rows. tt;
-          groups = reading.quiet.stands (provided st) stands.at.groups;
+          groups = reading.quiet.stands st.volumes stands.at.groups;
         })
 
     pub block_moves : (b : ℕ) (answer : Told) → v < length s.volumes → IfStands device.told (world_of p x l e) s (Shows s lane op (BlockOf v) (λ ws point. content ws point b) v set)
@@ -137,7 +138,7 @@ module _ {D : Type 0} (device : Ghosts D) {s : Plan} {p : ProviderValue D} {x : 
           is = shown.reads Clean;
           fits = block_fits device.told s p v set b first digest st shown.point within stands.at.groups seen.1 shown.is_point;
           lists = λ rows. tt;
-          groups = seen.0.quiet.stands (provided st) stands.at.groups;
+          groups = seen.0.quiet.stands st.volumes stands.at.groups;
         })
     block_moves b told.Fault within shows seen = fault_moves seen.0 shows seen.1
     block_moves b _ within shows seen = absurd seen
@@ -154,7 +155,7 @@ module _ {D : Type 0} (device : Ghosts D) {s : Plan} {p : ProviderValue D} {x : 
           is = shown.reads Clean;
           fits = (digest, digest_slot device.told s p v set digest st shown.point within stands.at.groups seen.1 shown.is_point, refl);
           lists = λ rows. tt;
-          groups = seen.0.quiet.stands (provided st) stands.at.groups;
+          groups = seen.0.quiet.stands st.volumes stands.at.groups;
         })
     digest_moves told.Fault within shows seen = fault_moves seen.0 shows seen.1
     digest_moves _ within shows seen = absurd seen

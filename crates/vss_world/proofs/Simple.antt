@@ -2,7 +2,7 @@
 use Rattle.std.proofs.Common.{◌≡◌, ◌∙◌, ℕ, List, [], refl, sym, subst, ap, Bool, true, Option, None, arith}
 use Rattle.vss_world.proofs.Words.{Act, AreGroups, Event, Evicted, Fits, Ghosts, HasLists, History, IsInPlan, IsMoved, IsPrepared, Keeps, Line, Mark, NumberedFrom, Op, Plan, ProviderValue}
 use Rattle.vss_world.proofs.Words.{SessionsValue, Stands, StandsAt, State, Told, WriterRow, act_of, devices_of, enabled, evicted, happens}
-use Rattle.vss_world.proofs.Words.{line, line_allows, line_enabled, lost, mark_of, new-is, none_ends, provided, simple_outcome, state, tells_of}
+use Rattle.vss_world.proofs.Words.{line, line_allows, line_enabled, lost, mark_of, new-is, none_ends, simple_outcome, state, tells_of}
 use Rattle.vss_model.specs.Words.{EndsAs, Reply, Running, ended_of, in_progress, left_now, lost_order_if, order_now, reply}
 use Rattle.vss_model.proofs.StateForm.{Replied}
 use Rattle.vss_model.specs.Acts.{after}
@@ -69,9 +69,9 @@ line_moves device s lane op answer p q x l k e f devices comes =
 -- ## the parts, where at most the volumes change
 
 pub with_volumes : {D : Type 0} (told : D → Option (List (List ℕ))) (q : ProviderValue D) (x : SessionsValue) (s : Plan) (st : State) (hs : List History) → Keeps x st → IsInPlan s st → IsPrepared q st
-    → AreGroups told s q.groups (provided (record st { volumes = hs })) → StandsAt told q x s (record st { volumes = hs })
+    → AreGroups told s q.groups hs → StandsAt told q x s (record st { volumes = hs })
 with_volumes told q x s st hs k plan d groups = grind arith
 
 pub volumes_parts : {D : Type 0} (told : D → Option (List (List ℕ))) (p q : ProviderValue D) (x : SessionsValue) (s : Plan) (st : State) (hs : List History) → StandsAt told p x s st
-    → q ≡ record p { groups = q.groups } → AreGroups told s q.groups (provided (record st { volumes = hs })) → StandsAt told q x s (record st { volumes = hs })
+    → q ≡ record p { groups = q.groups } → AreGroups told s q.groups hs → StandsAt told q x s (record st { volumes = hs })
 volumes_parts told p q x s st hs parts same groups = with_volumes told q x s st hs parts.sessions parts.plan (prepared_same p q st same parts.prepared) groups

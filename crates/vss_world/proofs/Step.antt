@@ -1,25 +1,23 @@
 -- A step of the provider, made or failed: what it comes to.
-use Rattle.std.proofs.Common.{◌≡◌, ℕ, ◌<◌, List, [], ◌∷◌, ◌++◌, refl, ap, sym, ◌∙◌, subst, Bool, true, false, ◌&&◌, Option, Some, None, inl, map, not, is_ok, IfSome, OnOk, Result, Ok, Err}
-use Rattle.std.proofs.Common.{slice_get, arith}
-use Rattle.vss_world.proofs.Words.{Act, Agenda, AreGroups, AreKept, Call, Cause, Clean, Course, Evicted, Fault, Flush, Ghosts, Group, HasStepCause, History, IfStandFor}
-use Rattle.vss_world.proofs.Words.{IfStands, IsAt, IsMove, IsMoved, IsNextStep, IsOf, IsPrepared, IsSettled, Keeps, LastsAt, Leaves, Mark, NumberedFrom, Plan}
-use Rattle.vss_world.proofs.Words.{Provider, ProviderValue, RoseAlone, RoseFor, SessionMove, SessionsValue, SetOutcome, SetRow, Settles, Stands, State, Told, UnexpectedProviderError, after}
-use Rattle.vss_world.proofs.Words.{after_move, after_provider, counts_of, course-step_made, cut_set, devices_of, dropped, event_volumes, false≢true, followed, groups_left, has_failed, images_after}
-use Rattle.vss_world.proofs.Words.{in_progress, is_done, is_fault, is_flush, is_snapshot, is_to_come, is_working, kept_trans, left, left-is, left_now, mark_if, mark_of}
-use Rattle.vss_world.proofs.Words.{next_volume, number-cut, numbered-map, open_group, orderly, provided, runs, state, state-append, step_made, step_taken}
-use Rattle.vss_world.proofs.Words.{stepped as course_stepped, told_act, volume_of_step, volume_place, without}
-use Rattle.set_agenda.specs.declared.kind.Kind.TheVariants as kind
-use Rattle.set_agenda.specs.Course.{posted}
+use Rattle.std.proofs.Common.{◌≡◌, ℕ, ◌<◌, List, [], ◌∷◌, ◌++◌, refl, ap, sym, ◌∙◌, subst, Bool, true, false, ◌&&◌, Option, Some, None, inl, map, not, is_ok}
+use Rattle.std.proofs.Common.{IfSome, OnOk, Result, Ok, Err, slice_get, arith}
+use Rattle.vss_world.proofs.Words.{Act, Agenda, AreGroups, AreKept, Call, Cause, Clean, Course, Evicted, Fault, Flush, Ghosts, Group, HasStepCause, History}
+use Rattle.vss_world.proofs.Words.{IfStandFor, IfStands, IsAt, IsMove, IsMoved, IsNextStep, IsOf, IsPrepared, IsSettled, Keeps, LastsAt, Leaves, Mark}
+use Rattle.vss_world.proofs.Words.{NumberedFrom, Plan, Provider, ProviderValue, RoseAlone, RoseFor, SessionMove, SessionsValue, SetOutcome, SetRow, Settles}
+use Rattle.vss_world.proofs.Words.{Stands, State, Told, UnexpectedProviderError, after, after_move, after_provider, counts_of, course-step_made, cut_set}
+use Rattle.vss_world.proofs.Words.{devices_of, dropped, event_volumes, false≢true, followed, groups_left, has_failed, images_after, in_progress, is_done}
+use Rattle.vss_world.proofs.Words.{is_fault, is_flush, is_snapshot, image_made, Commit, all_say, next_member, is_working, kept_trans, left, left-is, left_now}
+use Rattle.vss_world.proofs.Words.{mark_if, mark_of, next_volume, number-cut, numbered-map, open_group, orderly, runs, state, state-append, step_made}
+use Rattle.vss_world.proofs.Words.{step_taken, stepped as course_stepped, told_act, volume_of_step, volume_place}
+use Rattle.writer_state.specs.declared.said.Said.TheVariants as said
+use Rattle.set_agenda.specs.Course.{posted, settled, worked}
 use Rattle.vss_model.specs.declared.told.Told.TheVariants as told
 use Rattle.vss_world.proofs.Moved.{world_of, IsProviderAt, clean_devices, failed_devices, goes_on, leaves_of}
-use Rattle.vss_world.proofs.Following.{at_of, course_of, set_move, ends_of, session_comes}
-use Rattle.vss_world.proofs.Prepared.{volumes_same, IsSetMove, NoneOfZero, none_of_zero, cut_above, prepared_same, settled_comes, settled_keeps}
+use Rattle.vss_world.proofs.Following.{at_of, course_of, set_move, ends_of, session_comes, has_snapshot_set}
+use Rattle.vss_world.proofs.Prepared.{volumes_same, IsSetMove, NoneOfZero, none_of_zero, image_above, prepared_same, settled_comes, settled_keeps}
 use Rattle.vss_world.proofs.Provided.{number_above}
-use Rattle.vss_world.proofs.SetGoesOn.{GoesBy, GoesOn, IsOfAgenda, runs_snapshot, followed_goes, stepped_goes, goes_from, step_same, failed_course}
-use Rattle.vss_world.proofs.StepComes.{IsStepping, with_step, step_settles, step_leaves, made_elsewhere}
-use Rattle.vss_world.proofs.ToCome.{has_snapshot_set}
-use Rattle.vss_world.proofs.WithoutImages.{dropped_without}
-use Rattle.vss_model.proofs.Changes.{cuts_are}
+use Rattle.vss_world.proofs.SetGoesOn.{GoesOn, IsOfAgenda, runs_snapshot, followed_goes, stepped_goes, goes_from, step_same, failed_course}
+use Rattle.vss_model.proofs.Changes.{made_are}
 use Rattle.vss_model.proofs.StateForm.{stepped}
 
 pub working : (x : SessionsValue) (group : Group) (volume : Option ℕ) (st : State) → IsNextStep x group volume → Keeps x st → is_working (left_now st) ≡ true
@@ -28,7 +26,7 @@ working x group volume st next keeps = sym (ap is_working (left-is x.coordinator
 -- ## which of the two it is
 
 pub stepped_made : (g : Group) (mark : Mark) (st : State) → open_group (left_now st) ≡ Some g → mark ≡ mark_if (not true && is_flush (open_group (left_now st)))
-    → stepped mark st ≡ followed (runs st) (course_stepped true st.clock st.course) (step_made (Some g) st)
+    → stepped mark st ≡ followed (runs st) (course_stepped true st.clock st.course) (step_made (Some g) (next_volume (left_now st)) st)
 unfolding stepped
 stepped_made g mark st e f = grind arith
 
@@ -46,33 +44,69 @@ works_snapshot o e = grind arith
 pub step_number : {D : Type 0} (p : ProviderValue D) (st : State) (r : SetRow) → IsPrepared p st → is_working (left_now st) ≡ true → in_progress st ≡ Some r → p.set ≡ r.number
 step_number p st r prepared works is = grind arith
 
+-- ## the step
+
+-- the agenda in which the step at its open place is made
+abbrev with_step : ℕ → Agenda → Agenda
+with_step now a = all_say said.Ok now (next_member (groups_left a) ∷ []) a
+
+step_settles : (now : ℕ) (c : Course) (a : Agenda) → c.agenda ≡ Some a
+    → Settles (is_done (groups_left (with_step now a))) (with_step now a) c.outcome (course_stepped true now c).agenda (course_stepped true now c).outcome
+unfolding posted settled worked
+step_settles now c a runs = grind arith
+
+-- the set whose snapshot's agenda makes a step
+pub record IsStepping (s : Plan) (acts : List Act) (g : Group) (volume : Option ℕ) : Type 0 where
+  pub agenda : Agenda
+  pub runs : (state s acts).course.agenda ≡ Some agenda
+  pub snapshot : is_snapshot agenda.kind ≡ true
+  pub row : SetRow
+  pub is : in_progress (state s acts) ≡ Some row
+  pub opens : open_group (groups_left agenda) ≡ Some g
+  pub next : next_volume (groups_left agenda) ≡ volume
+
+-- what the provider does to the volumes is what the step makes
+image_taken : (n : ℕ) (volume : Option ℕ) (o : Option SetRow) (r : SetRow) (st : State) → o ≡ Some r → n ≡ r.number → step_taken Commit n volume st.volumes ≡ (image_made o volume st).volumes
+image_taken n volume o r st e f = grind arith
+
+cut_volumes : (o : Option SetRow) (st : State) → (cut_set o st).volumes ≡ st.volumes
+cut_volumes o st = grind arith
+
+taken : (g : Group) (n : ℕ) (volume : Option ℕ) (r : SetRow) (st : State) → in_progress st ≡ Some r → n ≡ r.number → step_taken g n volume st.volumes ≡ (step_made (Some g) volume st).volumes
+taken g n volume r st e f = grind (arith, image_taken, cut_volumes)
+
 -- ## what becomes of the set
 
 cut_numbered : (o : Option SetRow) (st : State) → NumberedFrom 1 st.sets → NumberedFrom 1 (cut_set o st).sets
 cut_numbered o st h = grind (arith, numbered-map, number-cut)
 
-step_numbered : (g : Group) (st : State) → NumberedFrom 1 st.sets → NumberedFrom 1 (step_made (Some g) st).sets
-step_numbered g st h = grind (arith, cut_numbered)
+image_numbered : (o : Option SetRow) (v : Option ℕ) (st : State) → NumberedFrom 1 st.sets → NumberedFrom 1 (image_made o v st).sets
+image_numbered o v st h = grind arith
 
-step_course : (g : Group) (st : State) → IsOfAgenda st → IsOfAgenda (step_made (Some g) st)
-step_course g st of = grind (arith, step_numbered, course-step_made, step_same, volumes_same)
+step_numbered : (g : Group) (v : Option ℕ) (st : State) → NumberedFrom 1 st.sets → NumberedFrom 1 (step_made (Some g) v st).sets
+step_numbered g v st h = grind (arith, cut_numbered, image_numbered)
 
--- the set goes on, or is over, with what is to come after the step
-made_goes : (g : Group) (a : Agenda) (st : State) → IsOfAgenda st → st.course.agenda ≡ Some a
-    → GoesBy (is_to_come (Some (with_step st.clock a))) st (followed (runs st) (course_stepped true st.clock st.course) (step_made (Some g) st))
-made_goes g a st of runs_it =
-    let x = step_made (Some g) st in
+step_course : (g : Group) (v : Option ℕ) (st : State) → IsOfAgenda st → IsOfAgenda (step_made (Some g) v st)
+step_course g v st of = grind (arith, step_numbered, course-step_made, step_same, volumes_same)
+
+-- the set goes on, or is over
+made_goes : (g : Group) (v : Option ℕ) (a : Agenda) (st : State) → IsOfAgenda st → st.course.agenda ≡ Some a
+    → GoesOn st (followed (runs st) (course_stepped true st.clock st.course) (step_made (Some g) v st))
+made_goes g v a st of runs_it =
+    let x = step_made (Some g) v st in
     let c = course_stepped true st.clock st.course in
-    let course = course-step_made (Some g) st in
-    let test = is_to_come (Some (with_step st.clock a)) in
-    goes_from test st x (followed (runs st) c x) course (step_same g st)
-    (subst (λ (d : Course). GoesBy test x (followed (runs (record st { course = d })) c x)) course
-    (stepped_goes a (with_step st.clock a) c x (step_course g st of) (ap (λ (d : Course). d.agenda) course ∙ runs_it) refl refl
+    let course = course-step_made (Some g) v st in
+    goes_from st x (followed (runs st) c x) course (step_same g v st)
+    (subst (λ (d : Course). GoesOn x (followed (runs (record st { course = d })) c x)) course
+    (stepped_goes a (with_step st.clock a) c x (step_course g v st of) (ap (λ (d : Course). d.agenda) course ∙ runs_it) refl
     (subst (λ (o : SetOutcome). Settles (is_done (groups_left (with_step st.clock a))) (with_step st.clock a) o c.agenda c.outcome) (sym (ap (λ (d : Course). d.outcome) course))
     (step_settles st.clock st.course a runs_it))))
 
-made_above : (g : Group) (st : State) → ((r : SetRow) → in_progress st ≡ Some r → 0 < r.number) → NoneOfZero st.volumes → NoneOfZero (step_made (Some g) st).volumes
-made_above g st l h = grind (arith, cut_above)
+above_made : (o : Option SetRow) (v : Option ℕ) (st : State) → ((r : SetRow) → o ≡ Some r → 0 < r.number) → NoneOfZero st.volumes → NoneOfZero (image_made o v st).volumes
+above_made o v st l h = grind (arith, image_above)
+
+made_above : (g : Group) (v : Option ℕ) (st : State) → ((r : SetRow) → in_progress st ≡ Some r → 0 < r.number) → NoneOfZero st.volumes → NoneOfZero (step_made (Some g) v st).volumes
+made_above g v st l h = grind (arith, cut_volumes, above_made)
 
 -- the agenda that makes the step, and its set
 pub stepping : (s : Plan) (x : SessionsValue) (acts : List Act) (group : Group) (volume : Option ℕ) → IsNextStep x group volume → Keeps x (state s acts) → IsStepping s acts group volume
@@ -100,27 +134,17 @@ stepping s x acts group volume next keeps = by_agenda (state s acts).course.agen
 -- what is known of a step that was made
 made_set_move : {D : Type 0} (s : Plan) (p : ProviderValue D) (acts : List Act) (act : Act) (group : Group) (volume : Option ℕ) (k : IsStepping s acts group volume) → IsPrepared p (state s acts)
     → is_working (left_now (state s acts)) ≡ true
-    → after s (state s acts) act ≡ followed (runs (state s acts)) (course_stepped true (state s acts).clock (state s acts).course) (step_made (Some group) (state s acts))
-    → IsSetMove p (state s acts) (after s (state s acts) act) (is_to_come (Some (with_step (state s acts).clock k.agenda))) (step_taken group p.set volume (provided (state s acts)))
-    (step_made (Some group) (state s acts)).volumes
+    → after s (state s acts) act ≡ followed (runs (state s acts)) (course_stepped true (state s acts).clock (state s acts).course) (step_made (Some group) volume (state s acts))
+    → IsSetMove p (state s acts) (after s (state s acts) act) (step_made (Some group) volume (state s acts)).volumes
 made_set_move {D = D} s p acts act group volume k prepared works to =
     let st = state s acts in
-    let test = is_to_come (Some (with_step st.clock k.agenda)) in
-    let made = (step_made (Some group) st).volumes in
-    let number : p.set ≡ k.row.number = step_number p st k.row prepared works k.is in
-    let leaves : step_taken group p.set volume (provided st) ≡ without test k.row.number made
-    = ap (λ (n : ℕ). step_taken group n volume (provided st)) number ∙ step_leaves s acts group volume k in
-    let same : (r : SetRow) → in_progress st ≡ Some r → k.row.number ≡ r.number = λ r e. (let f : Some k.row ≡ Some r = sym k.is ∙ e in let g : k.row ≡ r = cc in ap (λ (z : SetRow). z.number) g) in
+    let made = (step_made (Some group) volume st).volumes in
     record {
-      goes = subst (GoesBy test st) (sym to) (made_goes group k.agenda st (course_of s acts) k.runs);
+      goes = subst (GoesOn st) (sym to) (made_goes group volume k.agenda st (course_of s acts) k.runs);
       numbered = subst (λ (z : State). NumberedFrom 1 z.sets) (state-append s acts act) (orderly s (acts ++ act ∷ [])).numbered;
       prepared = prepared;
-      above = made_above group st (λ r e. number_above s acts r e) (none_of_zero s acts);
-      same = λ r e. ap (λ (n : ℕ). map (dropped n) (step_taken group p.set volume (provided st))) number ∙ ap (map (dropped k.row.number)) leaves ∙ dropped_without test k.row.number made
-          ∙ ap (λ (n : ℕ). map (dropped n) made) (same r e);
-      none = λ e. absurd (let f : Some k.row ≡ None = sym k.is ∙ e in cc);
-      coming = λ r e. leaves ∙ ap (λ (n : ℕ). without test n made) (same r e);
-      elsewhere = λ r i h e at out. made_elsewhere s acts group r i h e at out;
+      above = made_above group volume st (λ r e. number_above s acts r e) (none_of_zero s acts);
+      same = λ r e. ap (λ (n : ℕ). map (dropped n) made) (step_number p st r prepared works e);
     }
 
 failed_stepped : (now : ℕ) (c : Course) → ((course_stepped false now c).agenda ≡ None) × (has_failed (course_stepped false now c).outcome ≡ true)
@@ -141,13 +165,13 @@ module _ {D : Type 0} (device : Ghosts D) (s : Plan) {m : SessionMove} {p q r : 
     (of : IsOf (world_of p x l e) s) (none : f ≡ []) (same : q ≡ record p { groups = q.groups }) (settled : IsSettled device m q r) (move : IsMove (IsAt x s) s y Provider m)
     (leaves : Leaves x y) where
   -- what is left at a list of acts
-  left_at : (acts : List Act) (stands : Stands device.told (world_of p x l e) s acts) (test : ℕ → Bool) (base made : List History)
-      → event_volumes Provider m.outcome.told (state s acts) ≡ made → IsSetMove q (state s acts) (after_move s (state s acts) Provider m) test base made
-      → AreGroups device.told s q.groups base → IsProviderAt device.told s r (after_move s (state s acts) Provider m)
-  left_at acts stands test base made volumes known groups =
+  left_at : (acts : List Act) (stands : Stands device.told (world_of p x l e) s acts) (made : List History)
+      → event_volumes Provider m.outcome.told (state s acts) ≡ made → IsSetMove q (state s acts) (after_move s (state s acts) Provider m) made
+      → AreGroups device.told s q.groups made → IsProviderAt device.told s r (after_move s (state s acts) Provider m)
+  left_at acts stands made volumes known groups =
       let st = state s acts in
       let here = at_of of acts stands in
-      settled_comes device s q st (after_move s st Provider m) test base made known groups m r settled (ends_of st move here) (move.volumes st here ∙ ap (images_after m) volumes)
+      settled_comes device s q st (after_move s st Provider m) made known groups m r settled (ends_of st move here) (move.volumes st here ∙ ap (images_after m) volumes)
 
   pub made_moves : (group : Group) (volume : Option ℕ) → IsNextStep x group volume → m.outcome.told ≡ told.Step group volume false
       → IfStandFor device.told s p.groups (λ hs. AreGroups device.told s q.groups (step_taken group p.set volume hs)) → AreKept device p.groups q.groups
@@ -155,10 +179,11 @@ module _ {D : Type 0} (device : Ghosts D) (s : Plan) {m : SessionMove} {p q r : 
   made_moves group volume next told_is stands_so kept counts =
       let after_settle = settled_keeps device m q r settled in
       let marked : mark_of m.outcome.told ≡ Clean = ap mark_of told_is in
-      let to : IfStands device.told (world_of p x l e) s (λ st. after_move s st Provider m ≡ followed (runs st) (course_stepped true st.clock st.course) (step_made (Some group) st))
+      let to : IfStands device.told (world_of p x l e) s (λ st. after_move s st Provider m ≡ followed (runs st) (course_stepped true st.clock st.course) (step_made (Some group) volume st))
       = λ acts stands. let st = state s acts in
       after_provider s st (told_act Provider m.outcome.told) refl (working x group volume st next stands.at.sessions)
-      ∙ stepped_made group (mark_of m.outcome.told) st (next.group st stands.at.sessions) marked in
+      ∙ stepped_made group (mark_of m.outcome.told) st (next.group st stands.at.sessions) marked
+      ∙ ap (λ (v : Option ℕ). followed (runs st) (course_stepped true st.clock st.course) (step_made (Some group) v st)) (next.volume st stands.at.sessions) in
       session_comes device s Provider m (IsAt x s) none move (at_of of)
       (clean_devices device s Provider m.outcome p r x y l l e f of (kept_trans device p.groups q.groups r.groups kept after_settle.0) (leaves_of s x y of.writers leaves)
       (after_settle.1 ∙ counts) (ap is_fault marked))
@@ -167,11 +192,10 @@ module _ {D : Type 0} (device : Ghosts D) (s : Plan) {m : SessionMove} {p q r : 
       let st = state s acts in
       let k = stepping s x acts group volume next stands.at.sessions in
       let works = working x group volume st next stands.at.sessions in
-      let set_is : q.set ≡ p.set = ap (λ (z : ProviderValue D). z.set) same in
-      left_at acts stands (is_to_come (Some (with_step st.clock k.agenda))) (step_taken group q.set volume (provided st)) (step_made (Some group) st).volumes
-      (ap (λ (t : Told). event_volumes Provider t st) told_is ∙ ap (λ (x : State). x.volumes) (cuts_are (Some group) st))
+      left_at acts stands (step_made (Some group) volume st).volumes
+      (ap (λ (t : Told). event_volumes Provider t st) told_is ∙ ap (λ (x : State). x.volumes) (made_are (Some group) volume st))
       (made_set_move s q acts (told_act Provider m.outcome.told) group volume k (prepared_same p q st same stands.at.prepared) works (to acts stands))
-      (subst (λ (n : ℕ). AreGroups device.told s q.groups (step_taken group n volume (provided st))) (sym set_is) (stands_so (provided st) stands.at.groups)))
+      (subst (AreGroups device.told s q.groups) (taken group p.set volume k.row st k.is (step_number p st k.row stands.at.prepared works k.is)) (stands_so st.volumes stands.at.groups)))
       of tt
 
   -- one that a device fails
@@ -195,8 +219,8 @@ module _ {D : Type 0} (device : Ghosts D) (s : Plan) {m : SessionMove} {p q r : 
       (λ acts stands.
       let st = state s acts in
       let goes = subst (GoesOn st) (sym (to acts stands)) (failed_goes_on st (course_of s acts) (working x Flush (Some v) st next stands.at.sessions)) in
-      left_at acts stands (is_to_come st.course.agenda) (provided st) st.volumes (ap (λ (t : Told). event_volumes Provider t st) told_is)
-      (set_move s q acts (told_act Provider m.outcome.told) (prepared_same p q st same stands.at.prepared) goes) (stands_so (provided st) stands.at.groups))
+      left_at acts stands st.volumes (ap (λ (t : Told). event_volumes Provider t st) told_is)
+      (set_move s q acts (told_act Provider m.outcome.told) (prepared_same p q st same stands.at.prepared) goes) (stands_so st.volumes stands.at.groups))
       of tt
 
   -- either

@@ -1,17 +1,15 @@
 -- A group's area is brought to where it lasts: every other device is as it was, and the area's holds the copies.
-use Rattle.std.proofs.Common.{◌≡◌, ℕ, suc, ◌<◌, ◌==◌, List, [], ◌∷◌, length, refl, ap, sym, ◌∙◌, subst, arith, Bool, true, false, Option, Some, map, slice_get, slice_set, is_some}
-use Rattle.std.proofs.Common.{Result, Ok, Err, OnOk, IfErr, IsErr}
-use Rattle.vss_world.proofs.Words.{Act, AllTell as AllDevicesTell, AreLasting, AreStored, Area, Cause, Evicted, Ghosts, GroupValue, HasGroups, HasSyncCause, IsAreaHeld, IsOf, IsSynced, LastsAt, Plan}
-use Rattle.vss_world.proofs.Words.{ProviderValue, RoseAlone, SessionsValue, WorldValue, area_device_at, area_is_set, area_place, blocks_in_group, copies, copies_in_group, device_at, devices_of}
-use Rattle.vss_world.proofs.Words.{eqb-false, eqb-true, of_group, placed, provided, slice_get-set_other, slice_get-set_same, slice_get_inside, slice_get_within}
-use Rattle.vss_world.proofs.Words.{state, told_of}
+use Rattle.std.proofs.Common.{◌≡◌, ℕ, suc, ◌<◌, ◌==◌, List, [], ◌∷◌, length, refl, ap, sym, ◌∙◌, subst, arith, Bool, true, false, Option, Some, map, slice_get}
+use Rattle.std.proofs.Common.{slice_set, is_some, Result, Ok, Err, OnOk, IfErr, IsErr}
+use Rattle.vss_world.proofs.Words.{Act, AllTell as AllDevicesTell, AreLasting, AreStored, Area, Cause, Evicted, Ghosts, GroupValue, HasGroups, HasSyncCause}
+use Rattle.vss_world.proofs.Words.{IsAreaHeld, IsOf, IsSynced, LastsAt, Plan, ProviderValue, RoseAlone, SessionsValue, WorldValue, area_device_at, area_is_set}
+use Rattle.vss_world.proofs.Words.{area_place, blocks_in_group, copies, copies_in_group, device_at, devices_of, eqb-false, eqb-true, of_group, placed}
+use Rattle.vss_world.proofs.Words.{slice_get-set_other, slice_get-set_same, slice_get_inside, slice_get_within, state, told_of}
 use Rattle.std.proofs.lemmas.List.{map-id}
 use Rattle.provider.specs.Words.{placed as all_placed}
 use Rattle.provider.proofs.Words.{IsSynced as AreSynced}
 use Rattle.vss_world.proofs.Moved.{world_of, of_kept}
 use Rattle.vss_world.proofs.Digesting.{stands_still, devices_alone}
-use Rattle.vss_world.proofs.ToCome.{all_unnamed}
-use Rattle.vss_world.proofs.WithoutImages.{copies_without_all}
 
 -- ## one device of the list differs
 
@@ -67,8 +65,8 @@ synced_is device {s = s} {group = group} {p = p} {q = q} {x = x} {l = l} {e = e}
 
 -- a group's copies are those of the histories that the provider has
 copies_same : (s : Plan) (acts : List Act) (g : ℕ)
-    → copies (map (placed g) s.volumes) (provided (state s acts)) ≡ copies (all_placed (blocks_in_group g s.volumes)) (of_group g s.volumes (state s acts).volumes)
-copies_same s acts g = grind (arith, copies_without_all, all_unnamed, copies_in_group)
+    → copies (map (placed g) s.volumes) (state s acts).volumes ≡ copies (all_placed (blocks_in_group g s.volumes)) (of_group g s.volumes (state s acts).volumes)
+copies_same s acts g = grind (arith, copies_in_group)
 
 -- what a sync comes to, whatever it answers
 pub record IsSyncOf {D : Type 0} (device : Ghosts D) (s : Plan) (group : ℕ) (result : Result Unit Cause) (old new : WorldValue D) : Type 0 where
@@ -85,7 +83,7 @@ module _ {D : Type 0} (device : Ghosts D) {s : Plan} {group : ℕ} {p : Provider
     held_is : IsAreaHeld device.told (world_of q x l e) s group
     held_is acts stands tells =
         let st = state s acts in
-        let hs = provided st in
+        let hs = st.volumes in
         let number = of.number in
         let more = synced.kept.number in
         let was = slice_get_inside p.groups group (omega (arith, within, number)) in

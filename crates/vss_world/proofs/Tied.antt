@@ -1,9 +1,8 @@
 -- The devices against the groups: they hold the content of the volumes.
 use Rattle.std.proofs.Common.{◌≡◌, ℕ, List, length, refl, ap, sym, ◌∙◌, subst, arith, Option, Some, slice_get, IfSome}
-use Rattle.vss_world.proofs.Words.{AllTied, AreGroups, GroupValue, HasGroups, History, IsOf, Plan, StandsAt, State, WorldValue, Write, blocks_there, contents, devices_of, found_row, in_progress}
-use Rattle.vss_world.proofs.Words.{inside, of_group, provided, slice_get_inside, told_here, told_in}
+use Rattle.vss_world.proofs.Words.{AllTied, AreGroups, GroupValue, HasGroups, History, IsOf, Plan, StandsAt, State, WorldValue, blocks_there, contents}
+use Rattle.vss_world.proofs.Words.{devices_of, found_row, inside, of_group, slice_get_inside, told_here, told_in}
 use Rattle.provider.proofs.InGroup.{at_place}
-use Rattle.vss_world.proofs.OnProvided.{there}
 
 if_told : (o : Option (List (List ℕ))) (blocks : List (List ℕ)) (want : List (List ℕ)) → IfSome o (λ bs. bs ≡ want) → o ≡ Some blocks → blocks ≡ want
 if_told o blocks want h e = grind arith
@@ -24,6 +23,4 @@ tied told s groups hs has are v r h blocks e history_at is =
 
 -- the devices of a core hold the content that the definitions have
 pub holds_of : {D : Type 0} (told : D → Option (List (List ℕ))) {w : WorldValue D} {s : Plan} {st : State} → IsOf w s → StandsAt told w.provider w.sessions s st → AllTied told s st.volumes w.devices
-holds_of told {w = w} {s = s} {st = st} of at = subst (AllTied told s st.volumes) (sym of.devices) (λ v r h blocks e history_at is.
-    let x = there v (in_progress st) st.course.agenda st.volumes h history_at in
-    tied told s w.provider.groups (provided st) of.groups at.groups v r x.0 blocks e x.1 is ∙ ap (λ (ws : List Write). contents r.blocks ws (length ws)) x.2)
+holds_of told {w = w} {s = s} {st = st} of at = subst (AllTied told s st.volumes) (sym of.devices) (tied told s w.provider.groups st.volumes of.groups at.groups)

@@ -18,7 +18,6 @@ use Rattle.provider.proofs.Uncounted.{rose_at}
 use Rattle.vss_world.specs.declared.reply.Reply.{Reply as Answer}
 use Rattle.vss_world.specs.Moves.{HasMark, IsToldStep, StopsAs, StopsAfter}
 use Rattle.vss_world.proofs.Moved.{world_of}
-use Rattle.vss_world.proofs.OnProvided.{writes_at}
 use Rattle.vss_world.proofs.Seen.{IsPlain, failed_moves}
 use Rattle.vss_world.proofs.Looking.{provided_point}
 use Rattle.vss_world.proofs.Removed.{revert_is}
@@ -118,7 +117,7 @@ module _ {D : Type 0} (device : Ghosts D) (s : Plan) {m : SessionMove} {p r : Pr
 -- all that there were to restore are few enough
 pub stops_in_world : {D : Type 0} (blocks_told : D → Option (List (List ℕ))) (s : Plan) (p : ProviderValue D) (x : SessionsValue) (l : List ℕ) (e : List Evicted) (n v k : ℕ)
     → StopsInGroups blocks_told s p.groups v n k (Ok tt) → StopsAs blocks_told (world_of p x l e) s n v k told.Ok
-stops_in_world blocks_told s p x l e n v k stops = grind (arith, writes_at, provided_point)
+stops_in_world blocks_told s p x l e n v k stops = grind (arith, provided_point)
 
 -- of an image that is kept and a revert that is not refused
 record MayStop (s : Plan) (st : State) (n v k : ℕ) : Type 0 where

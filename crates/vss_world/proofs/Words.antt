@@ -16,12 +16,12 @@ pub use Rattle.vss_model.specs.Words.{Faulted, FaultedAfter, Fine, Fits, Flush, 
 pub use Rattle.vss_model.specs.Words.{IsBlock, IsDigestIf, IsFirstIf, IsInGroup, IsNewest, IsOfSession, IsOp, IsOutcome, IsPlan, Kept, KeptSets, Kind, Level, Mark, MaximumNumberOfSnapshotsReached}
 pub use Rattle.vss_model.specs.Words.{MaximumNumberOfVolumesReached, Member, Meta, Metadata, NothingEnds, NumberedFrom, ObjectAlreadyExists, ObjectNotFound, Ok, Op, Open, Order, Orders, OverButNewest}
 pub use Rattle.vss_model.specs.Words.{Pair, Place, Placed, Plan, PostCommit, PreCommit, Prepare, PrepareBackup, PrepareSnapshot, Properties, PropertiesOf, Query, Read, Refused, Release}
-pub use Rattle.vss_model.proofs.StateForm.{Replied, add, add_to, change_set, cleared, concluded, cut_set, delete_kept, failed, failed_in, followed, happens, image_block, image_blocks, judged}
+pub use Rattle.vss_model.proofs.StateForm.{Replied, add, add_to, change_set, cleared, concluded, cut_set, delete_kept, failed, failed_in, followed, happens, image_made, image_block, image_blocks, judged}
 pub use Rattle.vss_model.proofs.StateForm.{later, line, line_in, properties, put, refused, revert_to, reverted_as, step_made, stepped_as, with_room, with_room_if}
 pub use Rattle.vss_model.specs.Words.{Revert, Running, Said, Session, SetFails, SetOutcome, SetRow, Snapshot, SnapshotSetInProgress, Span, Start, State, StatusOf, System, Target, Tick}
 pub use Rattle.vss_model.specs.Words.{UnexpectedProviderError, UnsupportedContext, Verdict, VolumeRow, VssResult, Write, WriterPlan, WriterRow, act_of, add_refusal, after}
 pub use Rattle.vss_model.specs.Words.{after_set, all_say, allows, are_distinct, at_level, at_place, begun, blocks_in_group, blocks_named, blocks_of, bytes_of, call_in, call_of, change_at}
-pub use Rattle.vss_model.specs.Words.{check, check_other, content, contents, copies, copies_from, copies_of, copy_of, count_images, course_start, cut, cut_each, cut_if}
+pub use Rattle.vss_model.specs.Words.{check, check_other, content, contents, copies, copies_from, copies_of, copy_of, count_images, course_start, cut}
 pub use Rattle.vss_model.specs.Words.{dropped, enabled, ended_of, ending, event_allows, evicted, evicted_for, evicted_of, evicted_up_to, first_row, fresh}
 pub use Rattle.vss_model.specs.Words.{going_up_to, gone_up_to, group_code, group_of, group_slots, group_used, groups_left, has_failed, has_image, has_lost_image, has_no_volume, has_said}
 pub use Rattle.vss_model.specs.Words.{has_writers, head_or_0, history_in, history_of, idle_now, in_progress, is_among, is_backup, is_complete, is_cut_group, is_done}
@@ -51,12 +51,12 @@ pub use Rattle.std.proofs.lemmas.Slice.Eq.{bytes_eq-Decides}
 pub use Rattle.std.specs.List.{concat, flat_map, list_any, position_from, range_with_len}
 pub use Rattle.std.specs.Prelude.{unwrap_or}
 pub use Rattle.std.specs.Str.{bytes_eq}
-pub use Rattle.vss_model.proofs.Words.{Call, Covers, IsAtCut, IsCall, IsKeptInCourse, IsKeptInLog, Settles, Tied, UpTo, after_by, after_provider, all_said, and-true, and_three, as_many_volumes, by_if}
-pub use Rattle.vss_model.proofs.Words.{call_answered, call_timed, course-step_made, course_answered, course_begun, course_stepped, course_timed, covered, cut_is_open, cuts, ending_idle, ending_on}
+pub use Rattle.vss_model.proofs.Words.{Call, Covers, IsCall, IsKeptInCourse, IsKeptInLog, Settles, Tied, UpTo, after_by, after_provider, all_said, and-true, and_three, as_many_volumes, by_if}
+pub use Rattle.vss_model.proofs.Words.{call_answered, call_timed, course-step_made, course_answered, course_begun, course_stepped, course_timed, covered, ending_idle, ending_on}
 pub use Rattle.vss_model.proofs.Words.{ends_settle, fewer_wait, find-append_new, find-map, find-row_cut, find-settled_over, find-settled_running, found_above, has_complete, held_parts, held_point}
-pub use Rattle.vss_model.proofs.Words.{image_once_cut, image_runs, images_in_time, images_up_to, in_log, kind_is, live-filter, live_at, named_known_components, new-is, new_said, newest_image}
+pub use Rattle.vss_model.proofs.Words.{commit_volume, commits, CommitsNow, is_commit, no_image_yet, image_runs, images_in_time, images_up_to, in_log, kind_is, live-filter, live_at, named_known_components, new-is, new_said, newest_image}
 pub use Rattle.vss_model.proofs.Words.{newest_number, no_live_below, no_names, none_after, none_below, none_ends, none_over, none_runs, number-cut, numbered-map, or-false, orderly, other_goes}
-pub use Rattle.vss_model.proofs.Words.{outcome_is_running, room_with_image, row_number, running_incomplete, settled_row, state-append, tied, true_not_false, uncut_at_cut, unspoken, volumes-row_cut_if}
+pub use Rattle.vss_model.proofs.Words.{outcome_is_running, room_for_image, row_number, running_incomplete, settled_row, state-append, tied, true_not_false, unspoken, volumes-row_cut_if}
 pub use Rattle.vss_world.specs.Words.{CoordinatorState, IsAt, IsAtOver, IsInOrder, IsMove, IsNextStep, IsOnTime, IsStandingIn, IsWait, Keeps, Leaves, LeavesWithin, MayAdd, RegisterFault, Registered}
 pub use Rattle.vss_world.specs.Words.{SessionMove, SessionsValue, SetFacts, after_move, classes_registered, current_of, double_of, event_volumes, facts_of, failed_set, images_after, is_add, later_by}
 pub use Rattle.vss_world.specs.Words.{place_of, registered_in, told_alone, without_images, writer_count}
@@ -69,7 +69,6 @@ pub use Rattle.sessions.proofs.Newest.{length_bare}
 pub use Rattle.vss_world.specs.Changes.{IsEndPrepared, IsEnded, IsEndedAs, IsReleased, IsSettled, IsWriteBy, IsWriteLine, MakesRoom, begins_snapshot, told_if}
 pub use Rattle.vss_world.specs.Devices.{AllTied, RoseFor, tells_of, told_by, told_of}
 pub use Rattle.vss_world.specs.Moves.{IsBlocked, IsMoved, IsStepped, listed_after, lists_sets, simple_outcome, volume_by, volume_of, volume_of_step}
-pub use Rattle.vss_world.specs.Provided.{comes, dropped_if, is_to_come, number_of, provided, provided_of, without}
 pub use Rattle.vss_world.specs.Quiet.{AreDevicesAlone, AreFirst, AreNew, HasRegistered, IsAreaHeld, IsQuiet, IsSynced, registered_as}
 pub use Rattle.vss_world.specs.Reading.{IsBlockSeen, IsBlockTold, IsDigestOf, IsDigestSeen, IsDigestedIf, IsFingerprint, IsReading, IsWide}
 pub use Rattle.vss_world.specs.Stands.{AreBelow, IfStands, IsAgendaIn, IsInPlan, IsOf, IsPrepared, IsStanding, MembersBelow, SetsBelow, Stands, StandsAt, WorldValue, number_prepared}

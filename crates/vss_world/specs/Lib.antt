@@ -4,5 +4,4 @@ pub mod Moves
 pub mod Quiet
 pub mod Reading
 pub mod Changes
-pub mod Provided
 pub mod Words

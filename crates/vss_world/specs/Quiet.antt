@@ -7,7 +7,6 @@ use Rattle.vss_model.specs.Words.{used}
 use Rattle.provider.specs.Words.{GroupValue, LastsAt, StandsFor}
 use Rattle.vss_world.specs.Words.{AreGroups, AreLater, CoordinatorState, IsOf as IsSessionsOf, IsOnTime, Keeps, ProviderValue, Registered, SessionsValue, Stands as CoordinatorStands, area_place}
 use Rattle.vss_world.specs.Words.{writer_count}
-use Rattle.vss_world.specs.Provided.{provided}
 use Rattle.vss_world.specs.Devices.{tells_of, AreaHolds}
 use Rattle.vss_world.specs.Stands.{WorldValue, IsOf, Stands}
 
@@ -72,4 +71,4 @@ IsAreaHeld told w s g = (acts : List Act) → Stands told w s acts → AreaHolds
 
 -- these are the sets whose images are kept on volume v, at each list of acts for which both parts stand
 abbrev pub AreKeptSets : {D : Type 0} → (D → Option (List (List ℕ))) → ProviderValue D → SessionsValue → Plan → ℕ → List ℕ → Type 0
-AreKeptSets told p x s v sets = (acts : List Act) → Keeps x (state s acts) → AreGroups told s p.groups (provided (state s acts)) → sets ≡ sets_of (kept (state s acts) (history_of (state s acts) v))
+AreKeptSets told p x s v sets = (acts : List Act) → Keeps x (state s acts) → AreGroups told s p.groups (state s acts).volumes → sets ≡ sets_of (kept (state s acts) (history_of (state s acts) v))

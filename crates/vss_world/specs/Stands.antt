@@ -1,10 +1,8 @@
--- What the core of the service stands for: a list of acts. Its groups of volumes stand for the histories of the volumes, but for the
--- images of the set in progress that are still to come; the provider prepares the set in progress; and its other parts stand for the
--- rest of the state. (This project's own.)
+-- What the core of the service stands for: a list of acts. Its groups of volumes stand for the histories of the volumes; the provider
+-- prepares the set in progress; and its other parts stand for the rest of the state. (This project's own.)
 use Rattle.std.specs.Prelude.{ℕ, ◌≡◌, ◌<◌, ◌≤◌, ◌*◌, true, List, [], ◌∷◌, length, if◌then◌else◌, Option, Some, None}
 use Rattle.vss_model.specs.Words.{Act, Agenda, Evicted, Member, Plan, SetRow, State, are_distinct, in_progress, is_snapshot, state, volumes_of}
 use Rattle.vss_world.specs.Words.{AreGroups, HasGroups, IsOf as IsSessionsOf, Keeps, ProviderValue, SessionsValue, devices_of}
-use Rattle.vss_world.specs.Provided.{provided}
 
 -- what a contract sees: the devices, in the order in which they are given back; the lists that the last step told beside its outcome;
 -- and the rest, of which `Stands` speaks
@@ -70,7 +68,7 @@ pub record IsInPlan (s : Plan) (st : State) : Type 0 where
 
 -- a state, by what the provider and the sessions are
 pub record StandsAt {D : Type 0} (told : D → Option (List (List ℕ))) (p : ProviderValue D) (x : SessionsValue) (s : Plan) (st : State) : Type 0 where
-  pub groups : AreGroups told s p.groups (provided st)
+  pub groups : AreGroups told s p.groups st.volumes
   pub prepared : IsPrepared p st
   pub sessions : Keeps x st
   pub plan : IsInPlan s st

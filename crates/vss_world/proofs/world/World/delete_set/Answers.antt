@@ -1,7 +1,6 @@
 use Rattle.std.proofs.Common.{◌∙◌, sym, arith, ◌<◌}
 use Rattle.std.proofs.lemmas.Bool.Decides.{nat_tests}
 use Rattle.vss_model.specs.Acts.{state}
-use Rattle.vss_world.specs.Provided.{provided}
 use Rattle.vss_world.proofs.Removed.{few_gone, set_refused, set_none, set_gone}
 use Rattle.vss_world.proofs.world.World.delete_set.Goals as goal
 
@@ -9,7 +8,7 @@ pub overflow_cast-images : goal.overflow_cast-images
 overflow_cast-images g c =
     let standing = (rw (← c.self.view_is) at c.requires.standing) in
     let most = few_gone g.D.Device c.args.scenario.now c.self.inside.provider.groups c.drop_set-count.new.self.groups c.args.set c.drop_set-count.result
-    (provided (state c.args.scenario.now standing.acts)) c.volumes-facts.ensures.plan
+    (state c.args.scenario.now standing.acts).volumes c.volumes-facts.ensures.plan
     (rw (← c.self.view_is) at c.requires.of).groups standing.stands.at.groups c.drop_set-count.ensures.without in
     omega (arith, most)
 
