@@ -54,12 +54,14 @@ pub fn rule_of_cases()
 {}
 
 /// A volume is held, and a writer stands frozen, only while the one set in progress has its snapshot agenda.
+#[tactic(auto, using(vss_model::proofs::HeldOfSet::held_means, vss_model::proofs::HeldOfSet::frozen_means))]
 pub fn held_in_snapshot()
     ensures held { (s : Plan) (acts : List Act) (v : ℕ) → is_held (state s acts) v ≡ true → RunsSnapshot (state s acts) }
     ensures frozen { (s : Plan) (acts : List Act) (w : ℕ) → is_frozen (state s acts) w ≡ true → RunsSnapshot (state s acts) }
 {}
 
 /// Where the Cut step is the next one, every volume of the set is held and every participant stands frozen.
+#[tactic(auto, using(vss_model::proofs::AtCut::held_at_cut, vss_model::proofs::AtCut::frozen_at_cut))]
 pub fn all_stand_still_at_the_cut()
     ensures held { (s : Plan) (acts : List Act) (r : SetRow) (v : ℕ) → is_cut_group (open_group (left_now (state s acts))) ≡ true
         → in_progress (state s acts) ≡ Some r → is_among v r.volumes ≡ true → is_held (state s acts) v ≡ true }
@@ -80,6 +82,7 @@ pub fn image_shows_the_cut()
 {}
 
 /// While a volume of the set in progress is held, no act changes its effective writes.
+#[tactic(auto, using(vss_model::proofs::HeldWrites::held_keeps))]
 pub fn held_volume_keeps_its_writes()
     ensures { (s : Plan) (acts : List Act) (act : Act) (r : SetRow) (v : ℕ) → in_progress (state s acts) ≡ Some r
         → is_among v r.volumes ≡ true → is_held (state s acts) v ≡ true
@@ -87,12 +90,14 @@ pub fn held_volume_keeps_its_writes()
 {}
 
 /// The images of a volume rise in set, their points do not fall, and none is past the end of its effective writes.
+#[tactic(auto, using(vss_model::proofs::OneCut::images_in_time))]
 pub fn images_in_time()
     ensures { (s : Plan) (acts : List Act) (v : ℕ)
         → AreInTime (length (history_of (state s acts) v).writes) (history_of (state s acts) v).images }
 {}
 
 /// The image of the set in progress is the newest of its volume.
+#[tactic(auto, using(vss_model::proofs::NewestImage::newest_image))]
 pub fn image_in_progress_is_the_newest()
     ensures { (s : Plan) (acts : List Act) (r : SetRow) (v p : ℕ) → in_progress (state s acts) ≡ Some r
         → point_in r.number (history_of (state s acts) v).images ≡ Some p
@@ -100,6 +105,7 @@ pub fn image_in_progress_is_the_newest()
 {}
 
 /// A volume of the set in progress has no image of it before its Commit step, and has one as soon as that step is made.
+#[tactic(auto, using(vss_model::proofs::OneCut::no_image_yet, vss_model::proofs::Completed::image_once_made))]
 pub fn images_come_at_commit()
     ensures before { (s : Plan) (acts : List Act) (r : SetRow) (a : Agenda) (v : ℕ) → in_progress (state s acts) ≡ Some r
         → (state s acts).course.agenda ≡ Some a → has_said a.log (plain Commit) v ≡ false
@@ -111,6 +117,7 @@ pub fn images_come_at_commit()
 
 /// From its Commit step until the volume's Release the image of the set in progress names no block: its point is the end of
 /// the volume's effective writes, and it uses no slot.
+#[tactic(auto, using(vss_model::proofs::HeldImage::held_point, vss_model::proofs::HeldImage::held_slots))]
 pub fn held_image_names_no_block()
     ensures point { (s : Plan) (acts : List Act) (r : SetRow) (v p : ℕ) → in_progress (state s acts) ≡ Some r
         → is_held (state s acts) v ≡ true → point_in r.number (history_of (state s acts) v).images ≡ Some p
@@ -127,18 +134,21 @@ pub fn state_in_order()
 {}
 
 /// Of a set that has failed no image stands, on any volume.
+#[tactic(auto, using(vss_model::proofs::Failures::failed_keeps_nothing))]
 pub fn failed_set_keeps_no_image()
     ensures { (s : Plan) (acts : List Act) (n v : ℕ) (r : SetRow) → row_of (state s acts) n ≡ Some r
         → has_failed r.result ≡ true → point_in n (history_of (state s acts) v).images ≡ None }
 {}
 
 /// For a set that has failed no copy of an overwritten block is kept, in any area, whichever volumes share it.
+#[tactic(auto, using(vss_model::proofs::Failures::failed_has_no_copy))]
 pub fn failed_set_keeps_no_copy()
     ensures { (s : Plan) (acts : List Act) (n : ℕ) (r : SetRow) (group : List Placed) → row_of (state s acts) n ≡ Some r
         → has_failed r.result ≡ true → holds_for n (copies group (state s acts).volumes) ≡ false }
 {}
 
 /// Before its Cut each volume of the set in progress has room for one more image.
+#[tactic(auto, using(vss_model::proofs::RoomForImage::room_before_cut, vss_model::proofs::RoomForImage::room_at_cut))]
 pub fn room_for_an_image_until_the_cut()
     ensures before { (s : Plan) (acts : List Act) (r : SetRow) (v : ℕ) → in_progress (state s acts) ≡ Some r
         → cut s r.number acts ≡ None → is_among v r.volumes ≡ true → length (history_of (state s acts) v).images < most_images }
@@ -147,6 +157,7 @@ pub fn room_for_an_image_until_the_cut()
 {}
 
 /// While the Hold group is open the Cut step is not made, and nothing is said of a Release.
+#[tactic(auto, using(vss_model::proofs::HoldOpen::uncut_at_hold, vss_model::proofs::HoldOpen::unreleased_at_hold))]
 pub fn hold_comes_before_cut_and_release()
     ensures cut { (s : Plan) (acts : List Act) (a : Agenda) → open_group (left_now (state s acts)) ≡ Some Hold
         → (state s acts).course.agenda ≡ Some a → has_said a.log (plain Cut) 0 ≡ false }
@@ -165,6 +176,7 @@ pub fn named_components_are_known()
 {}
 
 /// While no set is in progress, no volume is held and no writer stands frozen.
+#[tactic(auto, using(vss_model::proofs::Failures::none_held, vss_model::proofs::Failures::none_frozen))]
 pub fn free_without_a_set()
     ensures held { (s : Plan) (acts : List Act) (v : ℕ) → in_progress (state s acts) ≡ None
         → is_held (state s acts) v ≡ false }
@@ -173,12 +185,14 @@ pub fn free_without_a_set()
 {}
 
 /// While an agenda runs, the provider has a step to make, or the first writer that is waited for has an order to answer.
+#[tactic(auto, using(vss_model::proofs::Waiting::agenda_goes_on))]
 pub fn running_agenda_goes_on()
     ensures { (s : Plan) (acts : List Act) → runs (state s acts) ≡ true → (is_working (left_now (state s acts)) ≡ true)
         ⊎ (is_some (order_of_writer (state s acts) (next_member (left_now (state s acts)))) ≡ true) }
 {}
 
 /// Where an agenda waits for writers a limit runs, and an idle stretch spends it.
+#[tactic(auto, using(vss_model::proofs::Waiting::idle_spends))]
 pub fn idle_stretch_spends_a_limit()
     ensures { (s : Plan) (acts : List Act) → is_asking (left_now (state s acts)) ≡ true
         → is_some (spent_of ((state s acts).clock + idle_now (state s acts)) (limits_now (state s acts).course)) ≡ true }
@@ -192,12 +206,14 @@ pub fn legal_trail_goes_on()
 
 /// In a legal trail the owner of the session that stands has an `end` line left, where every lane ends the sessions that
 /// it begins.
+#[tactic(auto, using(vss_model::proofs::GoesOn::owner_ends))]
 pub fn owner_has_an_end_left()
     ensures { (s : Plan) (trail : List Move) (q : Session) → EndsSessions s → is_legal s trail ≡ true
         → (run s trail).state.session ≡ Some q → has_end (drop (cursor trail q.owner) (lines_of s q.owner)) ≡ true }
 {}
 
 /// Turns come to an end: each legal move leaves fewer turns, and so a legal trail is short.
+#[tactic(auto, using(vss_model::proofs::TrailLength::one_turn, vss_model::proofs::TrailLength::trail_is_short))]
 pub fn turns_come_to_an_end()
     ensures fewer { (s : Plan) (trail : List Move) (m : Move) → IsPlan s → is_legal s (trail ++ m ∷ []) ≡ true
         → turns_left s (run s (trail ++ m ∷ [])) < turns_left s (run s trail) }
@@ -219,11 +235,13 @@ pub fn every_run_keeps_its_promises()
 {}
 
 /// A legal and complete trail makes each line of each lane once, in order.
+#[tactic(auto, using(vss_model::proofs::Headline::each_line_once))]
 pub fn each_line_is_made_once()
     ensures { (s : Plan) (trail : List Move) → is_legal s trail ≡ true → is_complete s trail ≡ true → MakesEachLineOnce s trail }
 {}
 
 /// At the end of a legal and complete trail no set is in progress: each that was started is complete or has failed.
+#[tactic(auto, using(vss_model::proofs::Ended::complete_ends))]
 pub fn complete_trail_ends_each_set()
     ensures { (s : Plan) (trail : List Move) → IsPlan s → is_legal s trail ≡ true → is_complete s trail ≡ true
         → in_progress (state s (acts s trail)) ≡ None }
