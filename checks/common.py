@@ -62,6 +62,22 @@ def ran(words, **how):
     return subprocess.run(words, **{"capture_output": True, "timeout": 120, "check": False, **how})
 
 
+class Calls:
+    """Calls of a program, which are counted."""
+
+    def __init__(self, program, seconds=120):
+        self.program, self.seconds, self.tried = program, seconds, 0
+
+    def __call__(self, status, told, *words, **how):
+        """A call ends with this status, and prints this, or anything for None; or it has this in its line on the standard error. Returns what it says."""
+        self.tried += 1
+        got = ran([self.program, *words], timeout=self.seconds, **how)
+        said = (got.stderr if status else got.stdout).decode()
+        if got.returncode != status or (told not in said if status else told not in (None, said)):
+            sys.exit(f"{words}: {got.returncode} {got.stdout} {got.stderr}, wanted {status} {told}")
+        return said
+
+
 def files_below(folder):
     """Returns all files below a folder, each with its bytes, by their paths."""
     paths = [os.path.join(at, name) for at, _, names in os.walk(folder) for name in names]

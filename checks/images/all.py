@@ -7,6 +7,7 @@ import sys
 
 import beside
 import damage
+import devices
 import failing
 import faults
 import kill
@@ -21,7 +22,7 @@ TOP = os.path.dirname(os.path.dirname(os.path.dirname(os.path.abspath(__file__))
 # the parts, with what each is given in the gate and by hand; None where it is left out there
 PARTS = (
     (lists, (0, 80), (1000, 2000)), (kill, (3,), ()), (beside, (5,), (1,)), (power, (9,), ()), (damage, (997,), ()), (words, (), None), (long, (), (2684354560,)),
-    (torn, (20,), (500,)), (terminal, (), None), (faults, None, ()), (failing, None, ()),
+    (devices, (), ()), (torn, (20,), (500,)), (terminal, (), None), (faults, None, ()), (failing, None, ()),
 )
 
 

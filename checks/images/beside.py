@@ -1,7 +1,6 @@
 """Reads beside a call that writes. The call is stopped before its Nth change, as kill.py kills it, and words are tried:
 each image that is shown has its bytes, what `diff` does not name is the same, and what changes is refused. Then it goes
 on, while a `show` is half done: that ends with 0 and the right bytes, or with 12."""
-import fcntl
 import os
 import re
 import select

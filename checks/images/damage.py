@@ -124,6 +124,29 @@ class Damage:
         for other in (area[:-1], area + b"x", b"", area + bytes(B), area[:-B]):
             self.refuses("images.area", other, 9, ["list", "F"], f"images: F/images.area: size: {len(other)}, and {len(area)} are wanted".encode())
 
+    def shorter(self):
+        """Under the marker of a call that gives space back the area may end behind its last slot in use. The next call that writes gives it its length."""
+        area, told = self.whole["images.area"], b"images: F/images.area: size: "
+        for lines in (b"delete\n", b"remove x\n", b"remove x 9\n", b"revert\nwal\n"):
+            for size in (4 * B, 5 * B - 1, 5 * B):
+                shutil.copytree("F", "kept")
+                write("F/images.open", lines)
+                write("F/images.area", area[:size])
+                for words, out in ((["list", "F"], b"slots 2 of 3"), (["show", "F", "1", "db"], b"a" * B), (["digest", "F", "db"], b""), (["check", "F"], b"wh"),
+                                   (["update", "--dry-run", "F", "wal=wal"], b""), (["update", "F", "wal=wal"], b"wal written")):
+                    got, is_refused = self.run(*words), lines[:3] == b"rev" and (words[0] == "check" or words[1] == "--dry-run")
+                    if got.returncode != 11 * is_refused or out not in got.stdout + b"wh" * is_refused or len(read("F/images.area")) != (5 * B if out == b"wal written" else size):
+                        sys.exit(f"{lines}, an area of {size} bytes, {words}: {got}")
+                self.must("check", "F")
+                shutil.rmtree("F")
+                os.rename("kept", "F")
+                self.tried += 1
+        for lines, size in ((b"delete\n", 4 * B - 1), (b"revert\nwal\n", 4 * B - 1), (b"delete\n", 5 * B + 1), (b"cut\n", 4 * B), (b"grow\n", 4 * B), (b"update\nwal\n", 4 * B)):
+            write("F/images.open", lines)
+            for words in (["list", "F"], ["show", "F", "1", "db"], ["check", "F"], ["update", "F", "wal=wal"]):
+                self.refuses("images.area", (area + b"x")[:size], 9, words, told)
+            os.remove("F/images.open")
+
     def lengths(self):
         for name in ("db.vol", "wal.vol"):
             data = self.whole[name]
@@ -358,7 +381,7 @@ class Damage:
 
 def main(program, room, step=1):
     damage = Damage(program, room, step)
-    for part in ("state", "fields", "last_set", "sizes", "lengths", "sums", "lost", "earlier", "missing", "modes", *["owners"] * (os.geteuid() == 0), "links", "markers", "in_use", "lists"):
+    for part in ("state", "fields", "last_set", "sizes", "shorter", "lengths", "sums", "lost", "earlier", "missing", "modes", *["owners"] * (os.geteuid() == 0), "links", "markers", "in_use", "lists"):
         getattr(damage, part)()
     if {name.partition("/")[2]: data for name, data in files_below("F").items()} != damage.whole:
         sys.exit("the folder is another at the end")

@@ -23,86 +23,62 @@ def bytes_of(letters, tail=b""):
     return b"".join(bytes([ord(letter)]) * B for letter in letters) + tail
 
 
-# files, the calls that make the folder, what the files become before the call, and the call
-SCENES = {
-    "update": (
-        {"db": bytes_of("abcd", b"end"), "wal": bytes_of("xy")},
-        [["create", "F", "5", "db=db", "wal:4=wal"], ["cut", "F", "db", "wal"], {"db": bytes_of("aBcd", b"end")}, ["update", "F", "db=db"], ["cut", "F", "db"],
-         {"wal": bytes_of("xY", b"more")}, ["update", "F", "wal=wal"], ["cut", "F", "wal", "db"]],
-        {"db": bytes_of("ABCD", b"other"), "wal": bytes_of("Xyz")}, ["update", "F", "db=db", "wal=wal"],
-    ),
-    "update with room": (
-        {"db": bytes_of("abcd", b"end"), "wal": bytes_of("xy")},
-        [["create", "F", "12", "db=db", "wal:4=wal"], ["cut", "F", "db", "wal"], {"db": bytes_of("aBcd", b"end")}, ["update", "F", "db=db"], ["cut", "F", "db"]],
-        {"db": bytes_of("ABCDE"[:4], b"other"), "wal": bytes_of("Xyz")}, ["update", "F", "wal=wal", "db=db"],
-    ),
-    "revert": (
-        {"db": bytes_of("abcd", b"end"), "wal": bytes_of("xy")},
-        [["create", "F", "12", "db=db", "wal:4=wal"], ["cut", "F", "db", "wal"], {"db": bytes_of("aBcd", b"end")}, ["update", "F", "db=db"], ["cut", "F", "db"],
-         {"db": bytes_of("ABCd", b"longer")}, ["update", "F", "db=db"], ["cut", "F", "db", "wal"], {"db": bytes_of("1234", b"")}, ["update", "F", "db=db"]],
-        {}, ["revert", "F", "1", "db"],
-    ),
-    "cut": (
-        {"db": bytes_of("ab"), "wal": bytes_of("x")},
-        [["create", "F", "4", "db=db", "wal:4=wal"], ["cut", "F", "db", "wal"], {"db": bytes_of("aB", b"end")}, ["update", "F", "db=db", "wal=wal"]],
-        {}, ["cut", "F", "wal", "db"],
-    ),
-    "delete": (
-        {"db": bytes_of("ab"), "wal": bytes_of("x")},
-        [["create", "F", "6", "db=db", "wal:4=wal"], ["cut", "F", "db", "wal"], {"db": bytes_of("AB", b"end")}, ["update", "F", "db=db"], ["cut", "F", "db", "wal"],
-         {"db": bytes_of("CB"), "wal": bytes_of("y")}, ["update", "F", "db=db", "wal=wal"]],
-        {}, ["delete", "F", "2"],
-    ),
-    "grow": (
-        {"db": bytes_of("abcd", b"end"), "wal": bytes_of("xy")},
-        [["create", "F", "6", "db=db", "wal:4=wal"], ["cut", "F", "db", "wal"], {"db": bytes_of("aBcd", b"end")}, ["update", "F", "db=db"], ["cut", "F", "db"],
-         {"db": bytes_of("ABcd", b"longer")}, ["update", "F", "db=db"]],
-        {}, ["grow", "F", "1100"],
-    ),
-    "grow a volume": (
-        {"db": bytes_of("ab", b"end"), "wal": b"log"},
-        [["create", "F", "8", "db=db", "wal=wal"], ["cut", "F", "db", "wal"], {"db": bytes_of("aB", b"other")}, ["update", "F", "db=db"], ["cut", "F", "db"],
-         {"db": bytes_of("aB", b"a third")}, ["update", "F", "db=db"]],
-        {}, ["grow", "F", "db=5"],
-    ),
-    "add": (
-        {"db": bytes_of("ab", b"end"), "wal": b"log", "new": bytes_of("n\0", b"ew")},
-        [["create", "F", "4", "db=db"], ["cut", "F", "db"], {"db": bytes_of("aB", b"other")}, ["update", "F", "db=db"]],
-        {}, ["add", "F", "new=new"],
-    ),
-    "remove": (
-        {"db": bytes_of("ab", b"end"), "wal": b"log"},
-        [["create", "F", "4", "wal=wal", "db=db"], ["cut", "F", "db", "wal"], {"db": bytes_of("aB", b"other"), "wal": b"more"}, ["update", "F", "db=db", "wal=wal"]],
-        {}, ["remove", "F", "wal"],
-    ),
-    "create": ({"db": bytes_of("ab", b"end"), "wal": b"short", "empty": b""}, [], {}, ["create", "F", "6", "db:4=db", "wal=wal", "empty=empty"]),
-}
+# what makes the folder: files, and calls; behind `|` what the files become, and the call. A file is a block for each letter, and a tail
+SCENES = dict(row.split(": ") for row in """\
+update: db is abcd+end / wal is xy / create F 5 db=db wal:4=wal / cut F db wal / db is aBcd+end / update F db=db / cut F db
+    / wal is xY+more / update F wal=wal / cut F wal db | db is ABCD+other / wal is Xyz / update F db=db wal=wal
+update with room: db is abcd+end / wal is xy / create F 12 db=db wal:4=wal / cut F db wal / db is aBcd+end / update F db=db / cut F db
+    | db is ABCD+other / wal is Xyz / update F wal=wal db=db
+revert: db is abcd+end / wal is xy / create F 12 db=db wal:4=wal / cut F db wal / db is aBcd+end / update F db=db / cut F db
+    / db is ABCd+longer / update F db=db / cut F db wal / db is 1234 / update F db=db | revert F 1 db
+cut: db is ab / wal is x / create F 4 db=db wal:4=wal / cut F db wal / db is aB+end / update F db=db wal=wal | cut F wal db
+delete: db is ab / wal is x / create F 6 db=db wal:4=wal / cut F db wal / db is AB+end / update F db=db / cut F db wal
+    / db is CB / wal is y / update F wal=wal db=db | delete F 2
+grow: db is abcd+end / wal is xy / create F 6 db=db wal:4=wal / cut F db wal / db is aBcd+end / update F db=db / cut F db
+    / db is ABcd+longer / update F db=db | grow F 1100
+grow a volume: db is ab+end / wal is +log / create F 8 db=db wal=wal / cut F db wal / db is aB+other / update F db=db / cut F db
+    / db is aB+a third / update F db=db | grow F db=5
+add: db is ab+end / wal is +log / new is n\0+ew / create F 4 db=db / cut F db / db is aB+other / update F db=db | add F new=new
+remove: db is ab+end / wal is +log / create F 4 wal=wal db=db / cut F db wal / db is aB+other / wal is +more / update F db=db wal=wal | remove F wal
+create: db is ab+end / wal is +short / empty is + | create F 6 db:4=db wal=wal empty=empty
+""".replace("\n    ", " ").splitlines())
+
+
+def step(text):
+    """A file and its bytes, or the words of a call."""
+    name, is_file, data = text.partition(" is ")
+    letters, _, tail = data.partition("+")
+    return (name, bytes_of(letters, tail.encode())) if is_file else text.split()
 
 
 class Scene:
     """A scene that was made once, in a folder of its own."""
 
     def __init__(self, program, room, name):
-        files, calls, then, self.call = SCENES[name]
+        made, _, then = (part.split(" / ") for part in SCENES[name].partition(" | "))
         self.program, self.name, self.base = program, name, os.path.join(room, "base")
         os.mkdir(self.base)
         self.before = plain.Plain({})
-        self.keep(files)
-        for call in calls:
-            if isinstance(call, dict):
-                self.keep(call)
-                continue
-            want, got = self.before.answer(call), self.run(self.base, call)
-            if (want[0], want[1]) != (got.returncode, got.stdout):
-                self.wrong("made", f"{call}: {got.returncode} {got.stdout} {got.stderr}")
-        self.keep(then)
+        for text in made:
+            self.make(step(text))
+        for text in then[:-1]:
+            self.keep(*step(text))
+        self.call = step(then[-1])
         self.after = copy.deepcopy(self.before)
         self.after.answer(self.call)
 
-    def keep(self, files):
-        for path, data in files.items():
-            self.before.files[path] = data
-            write(os.path.join(self.base, path), data)
+    def make(self, one):
+        """Keeps a file, or makes a call."""
+        if isinstance(one, tuple):
+            self.keep(*one)
+            return
+        want, got = self.before.answer(one), self.run(self.base, one)
+        if (want[0], want[1]) != (got.returncode, got.stdout):
+            self.wrong("made", f"{one}: {got.returncode} {got.stdout} {got.stderr}")
+
+    def keep(self, path, data):
+        self.before.files[path] = data
+        write(os.path.join(self.base, path), data)
 
     def run(self, folder, words, **more):
         return ran([self.program, *words], cwd=folder, env={**os.environ, **more})

@@ -3,7 +3,7 @@ import json
 import os
 import sys
 
-from common import ran, read, write
+from common import Calls, ran, read, write
 
 B = 16384
 PART = 65535 * B  # so many bytes of a file are in each volume but the last
@@ -12,17 +12,7 @@ PART = 65535 * B  # so many bytes of a file are in each volume but the last
 def main(program, room, *lengths):
     """With lengths: files of so many bytes are kept, too, most of which are holes."""
     os.chdir(room)
-    tried = 0
-
-    def call(status, told, *words):
-        """A call ends with this status, and prints this, or anything if it is empty; or it has this in its line on the standard error."""
-        nonlocal tried
-        tried += 1
-        got = ran([program, *words], timeout=3600)
-        said = (got.stderr if status else got.stdout).decode()
-        if got.returncode != status or (told not in said if status else told not in ("", said)):
-            sys.exit(f"{words}: {got.returncode} {got.stdout} {got.stderr}, wanted {status} {told}")
-        return said
+    call = Calls(program, 3600)
 
     def is_left(*names):
         if sorted(of for of in os.listdir("F") if of.endswith(".vol")) != sorted(names):
@@ -61,7 +51,7 @@ def main(program, room, *lengths):
     call(0, "whole: 1 volumes, 1 images, 0 of 8 slots\n", "check", "F")
     for length in lengths:
         keep(call, length)
-    return f"{tried} calls on files longer than a volume"
+    return f"{call.tried} calls on files longer than a volume"
 
 
 def keep(call, length):
@@ -88,15 +78,15 @@ def keep(call, length):
     call(0, "set 1\n", "cut", "G", "db", "log")
     os.system("cp --sparse=always long then")
     put(b"abcdefgh")
-    said = call(0, "", "update", "--dry-run", "G", "db=long")
-    done = call(0, "", "update", "G", "db=long")
+    said = call(0, None, "update", "--dry-run", "G", "db=long")
+    done = call(0, None, "update", "G", "db=long")
     if said.splitlines()[0].replace("would write", "written").replace("copy", "copied") != done.splitlines()[0]:
         sys.exit(f"{said} and then {done}")
     is_same("db")
     is_same("1", "db")
-    call(0, "", "check", "G")
-    call(0, "", "revert", "G", "1", "db")
+    call(0, None, "check", "G")
+    call(0, None, "revert", "G", "1", "db")
     is_same("1", "db")
     call(0, "removed db: 1\n", "remove", "G", "db")
-    call(0, "", "add", "G", "db=long")
+    call(0, None, "add", "G", "db=long")
     is_same("db")

@@ -13,7 +13,7 @@ import threading
 import time
 
 import plain
-from common import files_below, limited, ran, read, write
+from common import Calls, files_below, limited, ran, read, write
 
 B = 16384
 
@@ -63,16 +63,9 @@ def forecasts(program, seed):
     return tried
 
 
-def growth(program):
+def growth(call):
     """A folder without sums grows and gets them. A block with another sum is not moved, nor is its length kept: nothing is changed then."""
-    tried, first = 0, bytes([1]) * B
-
-    def call(status, told, *words):
-        nonlocal tried
-        tried += 1
-        got = ran([program, *words])
-        if got.returncode != status or told not in got.stderr + got.stdout:
-            sys.exit(f"{words}: {got.returncode} {got.stdout} {got.stderr}, wanted {status} {told}")
+    first = bytes([1]) * B
 
     def refused(name, at, told, *words):
         whole = read(f"H/{name}")
@@ -84,19 +77,60 @@ def growth(program):
         write(f"H/{name}", whole)
 
     write("one", first)
-    call(0, b"", "create", "H", "1", "one=one")
-    call(0, b"set 1", "cut", "H", "one")
+    call(0, "", "create", "H", "1", "one=one")
+    call(0, "set 1\n", "cut", "H", "one")
     write("one", bytes([2]) * B)
-    call(0, b"copied 1", "update", "H", "one=one")
+    call(0, "one written 1 copied 1\n", "update", "H", "one=one")
     write("H/images.state", plain.without_sums(read("H/images.state")))
-    call(0, b"slots 1100", "grow", "H", "1100")
-    call(0, b"whole: 1 volumes, 1 images, 1 of 1100 slots", "check", "H")
-    refused("images.area", 3 * B + 5, b"slot 0: its sum is another", "grow", "H", "3000")
-    refused("one.vol", 2 * B - 1, b"block 1: its sum is another", "grow", "H", "one=9")
-    call(0, b"slots 3000", "grow", "H", "3000")
-    call(0, b"volume one blocks 9", "grow", "H", "one=9")
-    call(0, b"1 of 3000 slots", "check", "H")
-    call(0, first, "show", "H", "1", "one")
+    call(0, "slots 1100\n", "grow", "H", "1100")
+    call(0, "whole: 1 volumes, 1 images, 1 of 1100 slots\n", "check", "H")
+    refused("images.area", 3 * B + 5, "slot 0: its sum is another", "grow", "H", "3000")
+    refused("one.vol", 2 * B - 1, "block 1: its sum is another", "grow", "H", "one=9")
+    call(0, "slots 3000\n", "grow", "H", "3000")
+    call(0, "volume one blocks 9\n", "grow", "H", "one=9")
+    call(0, "whole: 1 volumes, 1 images, 1 of 3000 slots\n", "check", "H")
+    call(0, first.decode(), "show", "H", "1", "one")
+    shutil.rmtree("H")
+
+
+def space(program):
+    """Behind a call by which images go, the area has the space up to its last slot in use, and its length. Where it does not get that back, the folder is
+    marked and right, and the next call that writes goes on."""
+    tried, files = 0, {name: [bytes([number]) * (B * count) for number in range(5)] for name, count in (("one", 30), ("two", 10))}
+
+    def call(status, told, used, blocks, *words, **how):
+        """A call, and then the slots up to the last in use, and the blocks of the area's file."""
+        nonlocal tried
+        tried += 1
+        got, found = ran([program, *words], **how), os.stat("H/images.area") if used is not None else None
+        if got.returncode != status or told not in got.stderr + got.stdout or found and (
+                found.st_size != B * blocks or not B * used <= found.st_blocks * 512 <= B * (used + 6)):
+            sys.exit(f"{words}: {got.returncode} {got.stdout[:99]} {got.stderr} {found}, wanted {status} {told} {used} {blocks}")
+
+    def update(number):
+        for name, data in files.items():
+            write(name, data[number])
+        call(0, b"", 40 * (number - 1), 202, "update", "H", "one=one", "two=two")
+        call(0, b"set", 40 * (number - 1), 202, "cut", "H", "one", "two")
+
+    for name, data in files.items():
+        write(name, data[1])
+    call(0, b"", None, None, "create", "H", "200", "one=one", "two=two")
+    for number in (1, 2, 3, 4):
+        update(number)
+    call(0, b"deleted 2", 120, 202, "delete", "H", "4")
+    few = limited(resource.RLIMIT_FSIZE, 1 << 20)
+    call(6, b"H/images.area: could not be resized: File too large", 110, 112, "delete", "H", "3", "two", preexec_fn=few)
+    call(6, b"H/images.area: could not be resized: File too large", 110, 112, "cut", "H", "one", preexec_fn=few)
+    call(0, b"whole: 2 volumes, 5 images, 110 of 200 slots", 110, 112, "check", "H")
+    for words in ("1 one", "2 two", "3 one", "one"):
+        call(0, files[words.split()[-1]][int((words if " " in words else f"4 {words}").split()[0])], 110, 112, "show", "H", *words.split())
+    call(3, b"there is no image of it on two", 110, 112, "show", "H", "3", "two")
+    call(0, b"deleted set 1: 2", 110, 202, "prune", "--keep", "2", "H")
+    call(0, b"", 80, 202, "revert", "H", "2", "one")
+    call(0, b"removed two: 1", 0, 202, "remove", "H", "two")
+    call(0, files["one"][2], 0, 202, "show", "H", "2", "one")
+    call(0, b"whole: 1 volumes, 1 images, 0 of 200 slots", 0, 202, "check", "H")
     shutil.rmtree("H")
     return tried
 
@@ -145,17 +179,7 @@ def in_transit(program):
 
 def main(program, room):
     os.chdir(room)
-    tried = 0
-
-    def call(status, told, *words, **how):
-        """A call ends with this status, and says this: on the standard output at 0, else in its line on the standard error."""
-        nonlocal tried
-        tried += 1
-        got = ran([program, *words], **how)
-        said = (got.stderr if status else got.stdout).decode()
-        if got.returncode != status or (told not in said if status else said != told):
-            sys.exit(f"{words}: {got.returncode} {got.stdout} {got.stderr}, wanted {status} {told}")
-
+    call = Calls(program)
     first, second, third = (bytes([byte]) * (3 * B) for byte in b"abc")
     def words_of(name):
         return [line.split()[0] for line in read(name).decode().splitlines()]
@@ -200,7 +224,7 @@ def main(program, room):
     call(0, "volume db written 0\n", "diff", "F", "2")
     call(3, "set 2: there is no image of it on log", "diff", "F", "1", "2", "log")
     call(3, "set 3: there is no image of it", "diff", "F", "1", "3")
-    tried += in_transit(program)
+    call.tried += in_transit(program)
     for note in ("two\nlines", "\x7f", "\u00e9", "n" * 101):
         call(2, "usage: cut [--note TEXT] F NAME ..", "cut", "--note", note, "F", "db")
 
@@ -216,11 +240,12 @@ def main(program, room):
     has("out", second, 0o640)
     if lasts("out") != lasts("db"):
         sys.exit(f"restore gave back {lasts('out')}, and not {lasts('db')}")
-    tried += without_lists(program)
+    call.tried += without_lists(program)
     small_files = limited(resource.RLIMIT_FSIZE, 2 * B)
     call(5, "out~restored: could not be written: File too large", "restore", "--over", "F", "1", "db", "out", preexec_fn=small_files)
     has("out", second, 0o640)
-    call(13, "set 1 of log: its file was not there", "restore", "--over", "F", "1", "log", "out")
+    for words in (["--over", "F", "1", "log", "out"], ["F", "1", "log", "out"], ["F", "1", "log", "none"]):
+        call(13, "set 1 of log: its file was not there", "restore", *words)
     call(3, "there is no image of it", "restore", "--over", "F", "9", "db", "out")
     has("out", second, 0o640)
     call(0, "", "restore", "F", "db", "now")
@@ -248,7 +273,8 @@ def main(program, room):
     has("all/db", first, 0o604)
     write("all/log", b"newer")
     write("all/db", b"newer")
-    call(3, "all/log: is there, and was not in set 1; remove it first", "restore", "--over", "F", "1", "all")
+    for words in (["--over", "F", "1", "all"], ["F", "1", "all"]):
+        call(3, "all/log: is there, and was not in set 1; remove it first", "restore", *words)
     if files_below("all") != {"all/db": b"newer", "all/log": b"newer"}:
         sys.exit("a set that was refused left something")
     os.symlink("F", "G")
@@ -296,10 +322,11 @@ def main(program, room):
         if not said.startswith(f"images {form}") or said != ran([program, word, "--help"]).stdout.decode() or example[:2] != ["./images", word] \
                 or ran([program, *example[1:]], cwd="/").returncode == 2:
             sys.exit(f"{word} --help: {said}")
-        tried += 3
+        call.tried += 3
     call(2, "usage: ", "nothing", "--help")
 
-    tried += sum(forecasts(program, seed) for seed in range(3)) + growth(program)
+    call.tried += sum(forecasts(program, seed) for seed in range(3)) + space(program)
+    growth(call)
     held = os.open("F", os.O_RDONLY)
     fcntl.flock(held, fcntl.LOCK_EX)
     call(10, "in use by another process", "check", "F")
@@ -309,4 +336,4 @@ def main(program, room):
     if words_of("F/images.dates") != ["sha256", "3", "3=db", "4", "4=db"]:
         sys.exit("a set that went kept its line")
     os.chdir("/")
-    return f"{tried} calls of restore, sets, diff, prune, --keep, --wait and --help"
+    return f"{call.tried} calls of restore, sets, diff, prune, --keep, --wait and --help"

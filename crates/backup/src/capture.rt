@@ -1,5 +1,6 @@
 use image_folder::{
     FileInput, Files, Job as Passes, Opened, Program, Status, brought_of, capture, ended,
+    say_unseen,
 };
 use volume_device::{FileDevice, FileFault};
 
@@ -135,6 +136,7 @@ pub fn take_all(opened: &mut Opened, captures: Vec<Capture<'_>>) -> Result<(), S
             return Err(Status::DeviceFault);
         }
     }
+    say_unseen(&jobs);
     let brought = brought_of(opened.folder.program.alloc(), &jobs)?;
     opened.folder.note_together(&brought)
 }

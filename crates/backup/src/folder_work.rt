@@ -1,5 +1,6 @@
-ghost use Rattle.std.specs.Prelude.{◌≢◌, ◌<◌, length, All, OnOk};
+ghost use Rattle.std.specs.Prelude.{◌≢◌, OnOk};
 ghost use Rattle.std.specs.List.{AllPairs};
+ghost use Rattle.image_folder.specs.Parts.{AreVolumes};
 
 use crate::capture::{Capture, check_all, fault_of, overwrite, read_part, take_all};
 use crate::chosen::Chosen;
@@ -54,9 +55,9 @@ fn take_over(opened: &mut Opened, chosen: &Chosen<'_>) -> Result<(), Status> {
 
 /// Adds the volumes of these names.
 fn add_places(opened: &Opened, names: &[&str], places: &mut Vec<u32>) -> Result<(), Status>
-    requires within { All (λ v. v < length opened.now.store.group.area.volumes) places.old.items }
+    requires within { AreVolumes opened.now.store.group places.old.items }
     requires apart { AllPairs (λ u v. u ≢ v) places.old.items }
-    ensures within { OnOk result (All (λ v. v < length opened.now.store.group.area.volumes) places.new.items) }
+    ensures within { OnOk result (AreVolumes opened.now.store.group places.new.items) }
     ensures apart { OnOk result (AllPairs (λ u v. u ≢ v) places.new.items) }
 {
     for name in names {

@@ -1,5 +1,10 @@
 -- The parts of a file that several volumes keep: how they are called, and which bytes of the file each has. (This project's own.)
-use Rattle.std.specs.Prelude.{ℕ, zero, suc, ◌+◌, ◌*◌, ◌-◌, ◌/◌, ◌%◌, ◌==◌, Bool, true, false, List, [], ◌∷◌, ◌++◌, take, drop, length, min, if◌then◌else◌, ◌≡◌, ◌<◌, Some, slice_get}
+use Rattle.std.specs.Prelude.{ℕ, suc, ◌+◌, ◌*◌, ◌-◌, ◌/◌, ◌%◌, ◌==◌, Bool, true, false, List, [], ◌∷◌, ◌++◌, take, drop, length, min, if◌then◌else◌, ◌≡◌, ◌<◌, Option, Some, None, slice_get, All}
+use Rattle.cow_volume.specs.GroupValue.{GroupValue}
+use Rattle.image_store.specs.FileBytes.{file_in}
+use Rattle.image_store.specs.Plain.{Plain}
+use Rattle.image_store.specs.Showing.{shown_in}
+use Rattle.image_store.specs.declared.which.Which.{Which}
 use Rattle.image_store.specs.Naming.{AreOthers, IsNamed}
 use Rattle.vss_names.specs.TextValue.{TextValue}
 
@@ -11,6 +16,10 @@ digit n = 48 + n % 10
 abbrev pub part_name : List ℕ → ℕ → List ℕ
 part_name name number = if number == 0 then name
     else name ++ 46 ∷ 46 ∷ digit (number / 100) ∷ digit (number / 10) ∷ digit number ∷ []
+
+-- these are volumes of the group
+abbrev pub AreVolumes : {D : Type 0} → GroupValue D → List ℕ → Type 0
+AreVolumes g volumes = All (λ v. v < length g.area.volumes) volumes
 
 -- volume u keeps the part of this number of the file of which volume v has the name: it has the name of the part
 abbrev pub IsPart : List TextValue → ℕ → ℕ → ℕ → Type 0
@@ -29,10 +38,17 @@ abbrev pub piece : ℕ → ℕ → Bool → List ℕ → List ℕ
 piece size number true file = drop (number * size) file
 piece size number false file = take size (drop (number * size) file)
 
--- the pieces from a number on, behind which so many more come, one behind another
-unfoldable pub joined : ℕ → ℕ → ℕ → List ℕ → List ℕ
-joined size number zero file = piece size number true file
-joined size number (suc more) file = piece size number false file ++ joined size (suc number) more file
+-- what a volume shows, or its image of a set: the file in its blocks
+abbrev pub file_of : Option (List (List ℕ)) → List ℕ
+file_of None = []
+file_of (Some blocks) = file_in blocks
+
+-- these volumes show the pieces of a file from this number on, to the last
+abbrev pub ArePieces : ℕ → ℕ → List Plain → Which → List ℕ → List ℕ → Type 0
+ArePieces size number ps which [] file = ⊥
+ArePieces size number ps which (v ∷ []) file = file_of (shown_in ps v which) ≡ piece size number true file
+ArePieces size number ps which (v ∷ u ∷ vs) file = (file_of (shown_in ps v which) ≡ piece size number false file)
+    × ArePieces size (suc number) ps which (u ∷ vs) file
 
 -- how many bytes a piece has of a file of so many
 abbrev pub piece_length : ℕ → ℕ → Bool → ℕ → ℕ

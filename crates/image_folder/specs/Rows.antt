@@ -1,5 +1,5 @@
--- What becomes of the rows of an area's slots if its volumes change. (This project's own.)
-use Rattle.std.specs.Prelude.{ℕ, ◌==◌, ◌-◌, nat_lt, if◌then◌else◌}
+-- The rows of an area's slots, and what becomes of them if its volumes change. (This project's own.)
+use Rattle.std.specs.Prelude.{ℕ, ◌≡◌, ◌≢◌, ◌≤◌, ◌<◌, ◌==◌, ◌-◌, nat_lt, if◌then◌else◌, List, Some, slice_get, IfSome}
 use Rattle.image_folder.specs.declared.state.Row.{Row}
 
 -- the row of a slot in no use
@@ -11,3 +11,11 @@ abbrev pub without : ℕ → Row → Row
 without volume row = if row.set == 0 then free
     else (if row.volume == volume then free
     else (if nat_lt row.volume volume then row else record row { volume = row.volume - 1 }))
+
+-- from one slot up to another none is in use
+abbrev pub AreFree : List Row → ℕ → ℕ → Type 0
+AreFree rows from to = (slot : ℕ) (row : Row) → from ≤ slot → slot < to → slice_get rows slot ≡ Some row → row.set ≡ 0
+
+-- the slot before one is in use, if there is one
+abbrev pub IsUsedBefore : List Row → ℕ → Type 0
+IsUsedBefore rows from = 0 < from → IfSome (slice_get rows (from - 1)) (λ row. row.set ≢ 0)

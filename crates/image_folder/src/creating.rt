@@ -6,7 +6,8 @@ use crate::ended::of_folder;
 use crate::file_input::FileInput;
 use crate::folder::Folder;
 use crate::job::{
-    Job, before_try, brought_of, check_all, compare, overwrite, say_changed, wait_out_all,
+    Job, before_try, brought_of, check_all, compare, overwrite, say_changed, say_unseen,
+    wait_out_all,
 };
 use crate::naming::{check_once, may_name};
 use crate::new_store::{blocks_of, new_store, sum_of};
@@ -263,6 +264,9 @@ fn create_in_tries(
         done = create_by(program, path, slots, pairs, &mut jobs);
     }
     say_changed(&jobs, "");
+    if done.is_ok() {
+        say_unseen(&jobs);
+    }
     done
 }
 

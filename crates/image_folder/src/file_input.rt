@@ -1,21 +1,17 @@
 ghost use Rattle.std.specs.Prelude.{◌≡◌, ◌<◌, ◌≤◌, None, length, OnOk};
 ghost use Rattle.vss_names.specs.Faults.{HasCause};
 
-use crate::own_file::is_same;
+use crate::named_file::NamedFile;
 use crate::parts::Part;
 use crate::program::Program;
 use crate::progress::Progress;
-use crate::source::Source;
 use crate::status::Status;
 use crate::together::Brought;
 use block_data::BLOCK;
 use byteorder::{ByteOrder, LittleEndian};
 use image_store::PassFault;
-use std::fs::{File, Metadata};
 use std::io::ErrorKind;
-use std::os::unix::fs::{FileExt, MetadataExt};
-use std::time::{Duration, SystemTime, UNIX_EPOCH};
-use std::{fs, io, thread};
+use std::{fs, io};
 use volume_device::{Device, FileDevice};
 use vss_names::Failed;
 
@@ -32,12 +28,6 @@ const LENGTH: usize = 8;
 const ADVICE: &str =
     "stop or freeze its writer, as SQLite's lock does: sqlite3 DATABASE '.timeout 5000' 'begin immediate' '.shell COMMAND' rollback";
 
-/// For how many milliseconds the system may give the same time to two changes of a file, and two more for what is rounded.
-const TICK: u64 = 12;
-
-/// The same on a file system that keeps whole seconds, or each second one.
-const COARSE_TICK: u64 = 2000 + TICK;
-
 /// A file that was named, or a part of it, as the blocks of a volume: its bytes, zeros, and its length in the last eight bytes
 /// (`image_store/specs/FileBytes.antt`). It is read alone, and as long as it was when it was opened.
 #[derive(Drop)]
@@ -47,8 +37,8 @@ pub struct FileInput<'a> {
     pub name: &'a str,
     pub part: Part,
     path: &'a str,
-    /// The file and what was found of it, if it is there.
-    source: Option<(File, Metadata)>,
+    /// The file, if it is there.
+    source: Option<NamedFile>,
     pub blocks: u32,
     count: u64,
     last: Option<io::Error>,
@@ -70,91 +60,6 @@ fn end_block(out: &mut [u8], have: usize, is_last: bool, file_length: u64)
     }
 }
 
-/// Whether a file is as long as it was, and was not changed since. The time of its change is the system's own, which no writer puts back.
-fn is_unchanged(before: &Metadata, now: &Metadata) -> bool {
-    now.len() == before.len()
-        && now.mtime() == before.mtime()
-        && now.mtime_nsec() == before.mtime_nsec()
-        && now.ctime() == before.ctime()
-        && now.ctime_nsec() == before.ctime_nsec()
-}
-
-/// Milliseconds of seconds and nanoseconds.
-fn millis_of(seconds: u64, nanos: u64) -> u64 {
-    seconds
-        .saturating_mul(1000)
-        .saturating_add(nanos / 1_000_000)
-}
-
-/// For how many milliseconds two changes of a file may have the same time, by the time of its last one.
-fn tick_of(found: &Metadata) -> u64 {
-    if found.ctime_nsec() == 0 {
-        COARSE_TICK
-    } else {
-        TICK
-    }
-}
-
-/// Whether a file changed so short a time ago that the next change of it may have the same time.
-fn is_fresh(program: &Program, found: &Metadata) -> bool {
-    let Ok(now) = SystemTime::now(&program.rt) else {
-        return true;
-    };
-    let Ok(now) = now.duration_since(UNIX_EPOCH) else {
-        return true;
-    };
-    let now = millis_of(now.as_secs(), u64::from(now.subsec_nanos()));
-    let changed = millis_of(
-        u64::try_from(found.ctime()).unwrap_or(0),
-        u64::try_from(found.ctime_nsec()).unwrap_or(0),
-    );
-    now.saturating_sub(changed) < tick_of(found) && changed.saturating_sub(now) < tick_of(found)
-}
-
-/// Opens a file that was named, if it is one: nobody waits for the other end of a pipe.
-fn file_at(program: &Program, path: &str) -> io::Result<Option<(File, Metadata)>> {
-    if !fs::metadata(&program.rt, path)?.is_file() {
-        return Ok(None);
-    }
-    let file = File::open(&program.rt, path)?;
-    let found = file.metadata()?;
-    Ok(Some((file, found)))
-}
-
-/// The file of a path.
-fn source_at(program: &Program, path: &str) -> Result<(File, Metadata), Status> {
-    match file_at(program, path) {
-        Ok(Some(found)) => Ok(found),
-        Ok(None) => Err(no_file(program, path)),
-        Err(error) => Err(ended!(*program, Unread; "{path}: could not be read: {error}")),
-    }
-}
-
-/// Says that there is something else than a file at a path.
-fn no_file(program: &Program, path: &str) -> Status {
-    match fs::metadata(&program.rt, path) {
-        Ok(found) if found.is_dir() => {
-            ended!(*program, Unread; "{path}: is no file, but a directory")
-        }
-        _ => ended!(*program, Unread; "{path}: is no file"),
-    }
-}
-
-/// Whether a file is the one that was found at its path, and has not changed since; and if not, how long it is.
-fn look_again(
-    program: &Program,
-    path: &str,
-    file: &File,
-    found: &Metadata,
-) -> io::Result<Option<u64>> {
-    let now = file.metadata()?;
-    let is_there = match fs::metadata(&program.rt, path) {
-        Ok(named) => is_same(&named, found),
-        Err(_) => false,
-    };
-    Ok((!is_there || !is_unchanged(found, &now)).then_some(now.len()))
-}
-
 /// Reads a block of what was captured, if it has so many.
 fn read_spool(spool: &mut FileDevice, index: u32, out: &mut [u8]) -> io::Result<()>
     requires { length out.old ≡ BLOCK }
@@ -170,7 +75,7 @@ impl<'a> FileInput<'a> {
     pub fn open(program: &Program, path: &'a str) -> Result<FileInput<'a>, Status> {
         let source = match path {
             NONE => None,
-            _ => Some(source_at(program, path)?),
+            _ => Some(NamedFile::at(program, path)?),
         };
         Ok(FileInput {
             program: *program,
@@ -242,7 +147,7 @@ impl<'a> FileInput<'a> {
     /// How many bytes the file had when it was opened.
     pub fn length(&self) -> u64 {
         match &self.source {
-            Some((_, found)) => found.len(),
+            Some(file) => file.length(),
             None => 0,
         }
     }
@@ -258,7 +163,7 @@ impl<'a> FileInput<'a> {
     /// The volume that is brought to it, and what it was like when it was opened.
     pub fn brought(&self) -> Brought<'a> {
         let source = match &self.source {
-            Some((_, found)) => Some(Source::of(found)),
+            Some(file) => file.source(),
             None => None,
         };
         Brought {
@@ -267,29 +172,35 @@ impl<'a> FileInput<'a> {
         }
     }
 
-    /// Whether it is the file of another path.
+    /// Whether it is the file of another path, or the block device on which that lies.
     pub fn is_at(&self, path: String) -> bool {
-        match (&self.source, fs::metadata(&self.program.rt, path.as_str())) {
-            (Some((_, found)), Ok(other)) => is_same(&other, found),
-            _ => false,
+        match &self.source {
+            Some(file) => file.is_at(&self.program, path.as_str()),
+            None => false,
+        }
+    }
+
+    /// Says of a block device, at its first part, that its changes are not seen.
+    pub fn say_unseen(&self) {
+        match &self.source {
+            Some(file) if self.part.number == 0 => file.say_unseen(&self.program, self.path),
+            _ => {}
         }
     }
 
     /// Waits until the next change of it has another time than the last one.
     pub fn wait_out(&self) {
-        if let Some((_, found)) = &self.source {
-            if is_fresh(&self.program, found) {
-                thread::sleep(&self.program.rt, Duration::from_millis(tick_of(found)));
-            }
+        if let Some(file) = &self.source {
+            file.wait_out(&self.program);
         }
     }
 
     /// That the file is at its path, and has not changed since it was opened. So all that was read of it is of one moment.
     pub fn check(&mut self) -> Result<(), Status> {
-        let Some((file, found)) = &self.source else {
+        let Some(file) = &self.source else {
             return self.check_none();
         };
-        match look_again(&self.program, self.path, file, found) {
+        match file.look_again(&self.program, self.path) {
             Ok(None) => Ok(()),
             Ok(changed) => {
                 self.changed = changed;
@@ -344,8 +255,8 @@ impl<'a> FileInput<'a> {
         let place = u64::from(index) * BLOCK as u64;
         let length = self.part.length_in(self.length());
         let have = length.saturating_sub(place).min(BLOCK as u64) as usize;
-        if let Some((file, _)) = &self.source {
-            file.read_exact_at(&mut out[..have], self.part.start().saturating_add(place))?;
+        if let Some(file) = &self.source {
+            file.read(&mut out[..have], self.part.start().saturating_add(place))?;
         }
         end_block(out, have, index == self.blocks - 1, self.length_kept());
         Ok(())

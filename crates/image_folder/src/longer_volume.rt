@@ -20,6 +20,7 @@ use crate::volumes::{add_entries, check_count, fill_all};
 use block_data::BlockBuf;
 use image_device::{BlockSum, SumTable};
 use image_order::mark;
+use std::alloc::{AllocError, Global};
 use std::sync::Arc;
 use volume_device::Device;
 
@@ -233,6 +234,19 @@ fn check_more(
     check_count(program, shape, inputs.len())
 }
 
+/// The line of the marker under which a file of so many volumes gets so many more.
+fn line_of_growth(
+    alloc: Global,
+    name: &str,
+    had: usize,
+    more: usize,
+) -> Result<String, AllocError> {
+    if more == 0 {
+        return String::from_str(alloc, "grow\n");
+    }
+    line_of_parts(alloc, "grow", name, had.saturating_add(more))
+}
+
 /// Gives a file so many blocks that these volumes keep: its last part grows, and new ones come.
 fn more_blocks(
     folder: &mut Folder,
@@ -259,16 +273,7 @@ fn more_blocks(
         None
     };
     let first = add_entries(&program, shape, &inputs)?;
-    let line = if inputs.is_empty() {
-        String::from_str(alloc, "grow\n")?
-    } else {
-        line_of_parts(
-            alloc,
-            "grow",
-            name,
-            volumes.len().saturating_add(inputs.len()),
-        )?
-    };
+    let line = line_of_growth(alloc, name, volumes.len(), inputs.len())?;
     mark(folder, line.as_str())?;
     if let Some(tails) = &tails {
         growth.write(folder, shape, &shape.sums, tails)?;

@@ -148,6 +148,12 @@ impl Marker {
         self.text.starts_with("grow")
     }
 
+    /// Whether the area may end behind its last slot in use.
+    pub fn lets_shrink(&self) -> bool {
+        let call = self.text.lines().next().unwrap_or("");
+        matches!(call, "delete" | "revert") || call.starts_with("remove ")
+    }
+
     /// The file of which so many volumes may be there though they do not count.
     pub fn left(&self) -> Option<(&str, u32)> {
         named_in(self.text.lines().next()?)

@@ -271,6 +271,12 @@ impl Opened {
         keep_in_order(&mut self.folder, &mut self.store, &none, text, was_torn)
     }
 
+    /// Commits, under a marker, that images went; then the space of their slots comes back.
+    pub fn commit_deletion(&mut self) -> Result<(), Status> {
+        self.commit_marked("delete\n")?;
+        self.folder.give_back()
+    }
+
     /// Notes when a set was cut and what for, before it is committed.
     pub fn note_date(&mut self, set: u32, note: &str) -> Result<(), Status>
         ensures { self.new.store ≡ self.old.store }

@@ -2,8 +2,8 @@
 //! its number, as `db..001`. A part that another one follows has 65,535 blocks of the file, and like each volume a last block with the length of what
 //! it has. So a file of so many blocks has room for 16,384 bytes in each of them but for the last eight, in one volume or in many.
 
-ghost use Rattle.std.specs.Prelude.{◌≡◌, ◌<◌, ◌≤◌, ◌+◌, ◌*◌, ◌-◌, ◌/◌, ℕ, List, IfOk, IfSome, length};
-ghost use Rattle.image_folder.specs.Parts.{joined, part_name, piece_length};
+ghost use Rattle.std.specs.Prelude.{◌≡◌, ◌<◌, ◌≤◌, ◌+◌, ◌*◌, ◌-◌, ◌/◌, IfOk, IfSome, length};
+ghost use Rattle.image_folder.specs.Parts.{part_name, piece_length};
 
 use crate::program::Program;
 use crate::status::Status;
@@ -131,12 +131,6 @@ pub fn parted(name: &[u8]) -> Option<(&[u8], u32)>
         _ => None,
     }
 }
-
-/// The parts of a file, one behind another, are the file: however many come behind the first.
-#[tactic(auto, using(crate::proofs::Joins::joined_is_file))]
-pub fn the_parts_are_the_file()
-    ensures { (more : ℕ) (file : List ℕ) → joined 1073725440 0 more file ≡ file }
-{}
 
 /// The text of a name.
 pub fn text_of(name: &Text) -> &str {

@@ -106,6 +106,7 @@ impl Opened {
             volumes,
         };
         self.is_marked = true;
-        revert_in_order(&mut self.folder, &mut self.store, &jobs, lines, was_torn)
+        revert_in_order(&mut self.folder, &mut self.store, &jobs, lines, was_torn)?;
+        self.folder.give_back()
     }
 }

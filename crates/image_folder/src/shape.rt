@@ -102,6 +102,9 @@ impl Shape {
         let front = front_of(program.alloc(), self.head.catalog(), &self.rows)?;
         (folder.front, folder.sums) = (Some(front), Some(Arc::try_clone(&self.sums)?));
         commit(folder, self, &program)?;
+        if !self.gone.is_empty() {
+            folder.give_back()?;
+        }
         end_in_order(folder, self, &program)
     }
 

@@ -2,7 +2,9 @@
 
 use crate::file_input::FileInput;
 use crate::folder::{AREA, DATES, STATE, TOGETHER};
-use crate::job::{Job, before_try, brought_of, check_all, compare, say_changed, wait_out_all};
+use crate::job::{
+    Job, before_try, brought_of, check_all, compare, say_changed, say_unseen, wait_out_all,
+};
 use crate::naming::{check_once, name_in};
 use crate::opened::Opened;
 use crate::pair::Pair;
@@ -26,11 +28,13 @@ pub fn is_own(opened: &Opened, input: &FileInput<'_>) -> Result<bool, Status> {
     )
 }
 
-/// That the file that is opened for the first part of a file of the folder is none of the folder itself.
+/// That the file that is opened for the first part of a file of the folder is none of the folder itself, nor the device on which that lies.
 pub fn check_own(opened: &Opened, file: &str, input: &FileInput<'_>) -> Result<(), Status> {
     if is_own(opened, input)? {
         let folder = opened.folder.path.as_str();
-        return Err(ended!(opened.folder.program, Refused; "{file}: is a file of {folder}"));
+        return Err(
+            ended!(opened.folder.program, Refused; "{file}: is a file of {folder}, or the device on which it lies"),
+        );
     }
     Ok(())
 }
@@ -194,5 +198,8 @@ pub fn update(opened: &mut Opened, pairs: &[Pair<'_>], tries: u32) -> Result<(),
         ""
     };
     say_changed(&jobs, more);
+    if done.is_ok() {
+        say_unseen(&jobs);
+    }
     done
 }

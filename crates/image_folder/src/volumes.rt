@@ -234,6 +234,9 @@ fn add_once(
         }
     }
     shape.end(program, done)?;
+    if let Some(input) = inputs.first() {
+        input.say_unseen();
+    }
     let last = inputs.last().map(|input| input.blocks).unwrap_or(0);
     Ok(blocks_of_file(inputs.len(), last))
 }

@@ -1,13 +1,13 @@
 //! `restore`: a file takes its place whole, or what is there stays.
 
-use crate::list::length_of_all;
+use crate::list::{length_of_all, unsettled};
 use crate::sets::no_image;
-use crate::show::show_into;
+use crate::show::{refusal, show_into};
 use crate::task::Shown;
 use image_folder::{
-    Folder, Opened, Program, Source, Status, ended, is_part, name_in, note, parent_of,
+    ABSENT, Folder, Opened, Program, Source, Status, ended, is_part, name_in, note, parent_of,
 };
-use image_store::Which;
+use image_store::{ShowFault, Which};
 use std::alloc::AllocError;
 use std::fs::{File, Metadata, Permissions};
 use std::io::ErrorKind;
@@ -35,20 +35,47 @@ fn check_apart(folder: &Folder, path: &str) -> Result<(), Status> {
     }
 }
 
-/// The file that is there, if it may be replaced; none if none is there.
-fn replaced(folder: &Folder, target: Target<'_>) -> Result<Option<Metadata>, Status> {
-    let (program, path) = (folder.program, target.path);
+/// The file that is at the path of one that is restored; none if none is there.
+fn found_at(folder: &Folder, path: &str) -> Result<Option<Metadata>, Status> {
+    let program = folder.program;
     check_apart(folder, path)?;
     match fs::symlink_metadata(&program.rt, path) {
         Err(error) if error.kind() == ErrorKind::NotFound => Ok(None),
         Err(error) => Err(ended!(program, Unread; "{path}: could not be read: {error}")),
         Ok(found) if !found.is_file() => Err(
-            ended!(program, Refused; "{path}: is no file; a folder or a link is never replaced"),
-        ),
-        Ok(_) if !target.is_over => Err(
-            ended!(program, Refused; "{path}: is there already; --over takes its place"),
+            ended!(program, Refused; "{path}: is no file; a folder, a link or a device is never replaced"),
         ),
         Ok(found) => Ok(Some(found)),
+    }
+}
+
+/// The file that is there, if it may be replaced; none if none is there.
+fn replaced(folder: &Folder, target: Target<'_>) -> Result<Option<Metadata>, Status> {
+    match found_at(folder, target.path)? {
+        Some(_) if !target.is_over => Err(
+            ended!(folder.program, Refused; "{}: is there already; --over takes its place", target.path),
+        ),
+        found => Ok(found),
+    }
+}
+
+/// That there was a file in what is shown, which would take the place of one.
+fn check_was_there(opened: &mut Opened, of: Shown<'_>) -> Result<(), Status> {
+    let (volume, which) = match of.set {
+        None => (opened.place_of(of.name)?, Which::Now),
+        Some(set) => (opened.place_of_image(set, of.name)?, Which::Of(set)),
+    };
+    if unsettled(opened, volume, which).is_some() {
+        return Ok(());
+    }
+    match length_of_all(opened, volume, which)? {
+        Some(_) => Ok(()),
+        None => Err(refusal(
+            opened,
+            volume,
+            which,
+            ShowFault::BadLength { found: ABSENT },
+        )),
     }
 }
 
@@ -151,9 +178,12 @@ fn path_aside(program: &Program, path: &str) -> Result<String, AllocError> {
     format!(in program.alloc(); "{path}~restored")
 }
 
-/// `restore F [SET] NAME FILE`: FILE has what the image, or the volume, has. If that fails, what was there stays.
+/// `restore F [SET] NAME FILE`: FILE has what the image, or the volume, has. If that fails, or no file was there, what is at FILE stays.
 pub fn restore(opened: &mut Opened, of: Shown<'_>, target: Target<'_>) -> Result<(), Status> {
     let program = opened.folder.program;
+    if found_at(&opened.folder, target.path)?.is_some() {
+        check_was_there(opened, of)?;
+    }
     let old = replaced(&opened.folder, target)?;
     let aside = path_aside(&program, target.path)?;
     let file = made_aside(&program, aside.as_str())?;
@@ -236,10 +266,10 @@ fn put_parts(program: &Program, made: &[&str], is_over: bool) -> Result<(), Stat
     }
 }
 
-/// That the file of a part may be made. One that is there stays if the set's was not there; then the call is refused.
-fn check_part(opened: &mut Opened, set: u32, part: &Part, is_over: bool) -> Result<(), Status> {
+/// That no file is there where the set's was not there.
+fn check_part(opened: &mut Opened, set: u32, part: &Part) -> Result<(), Status> {
     let path = part.path.as_str();
-    if replaced(&opened.folder, Target { path, is_over })?.is_none() {
+    if found_at(&opened.folder, path)?.is_none() {
         return Ok(());
     }
     let volume = opened.place_of_image(set, part.name.as_str())?;
@@ -251,14 +281,24 @@ fn check_part(opened: &mut Opened, set: u32, part: &Part, is_over: bool) -> Resu
     }
 }
 
+/// That the files of a set may be made. What stays whether or not others may be replaced is said first.
+fn check_parts(opened: &mut Opened, set: u32, parts: &[Part], is_over: bool) -> Result<(), Status> {
+    for part in parts {
+        check_part(opened, set, part)?;
+    }
+    for Part { path, .. } in parts {
+        let path = path.as_str();
+        replaced(&opened.folder, Target { path, is_over })?;
+    }
+    Ok(())
+}
+
 /// `restore F SET FOLDER`: each file of the set gets the name of its volume there, once all are made. Before the first is made each name is
 /// looked at. If it fails, what has no name yet goes.
 pub fn restore_set(opened: &mut Opened, set: u32, target: Target<'_>) -> Result<(), Status> {
     let (program, is_over) = (opened.folder.program, target.is_over);
     let parts = parts_of(opened, set, target.path)?;
-    for part in &parts {
-        check_part(opened, set, part, is_over)?;
-    }
+    check_parts(opened, set, &parts, is_over)?;
     let mut made = Vec::with_capacity(program.alloc(), parts.len())?;
     let mut done = fill_parts(opened, set, &parts, is_over, &mut made);
     if done.is_ok() {

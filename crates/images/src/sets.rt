@@ -1,7 +1,8 @@
 //! `cut`, `delete`, `prune` and `revert`: sets come and go.
 
-ghost use Rattle.std.specs.Prelude.{◌≡◌, ◌≢◌, ◌<◌, length, All, OnOk};
+ghost use Rattle.std.specs.Prelude.{◌≡◌, ◌≢◌, ◌<◌, length, OnOk};
 ghost use Rattle.std.specs.List.{AllPairs};
+ghost use Rattle.image_folder.specs.Parts.{AreVolumes};
 
 use image_folder::{Brought, Files, Opened, Status, ended, is_part, name_in, note, sets_of};
 use image_store::CutFault;
@@ -28,9 +29,9 @@ fn refusal(opened: &Opened, fault: CutFault) -> Status {
 
 /// Adds the volumes of these names.
 fn add_places(opened: &Opened, names: &[String], volumes: &mut Vec<u32>) -> Result<(), Status>
-    requires within { All (λ v. v < length opened.now.store.group.area.volumes) volumes.old.items }
+    requires within { AreVolumes opened.now.store.group volumes.old.items }
     requires apart { AllPairs (λ u v. u ≢ v) volumes.old.items }
-    ensures within { OnOk result (All (λ v. v < length opened.now.store.group.area.volumes) volumes.new.items) }
+    ensures within { OnOk result (AreVolumes opened.now.store.group volumes.new.items) }
     ensures apart { OnOk result (AllPairs (λ u v. u ≢ v) volumes.new.items) }
 {
     for name in names {
@@ -111,7 +112,7 @@ pub fn delete(opened: &mut Opened, set: u32, name: Option<&str>) -> Result<(), S
         return Err(no_image(opened, set));
     }
     write!(opened.text, "deleted {count}\n")?;
-    opened.commit_marked("delete\n")
+    opened.commit_deletion()
 }
 
 /// `prune --keep N F`: the images of all sets but the N newest go.
@@ -126,7 +127,7 @@ pub fn prune(opened: &mut Opened, keep: u32) -> Result<(), Status> {
         let images = drop_images(opened, *set, None)?;
         write!(opened.text, "deleted set {set}: {images}\n")?;
     }
-    opened.commit_marked("delete\n")
+    opened.commit_deletion()
 }
 
 /// The images of a volume that are newer than that of a set go, the newest first. So what is kept after it shows that image and the older

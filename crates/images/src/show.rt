@@ -5,7 +5,9 @@ ghost use Rattle.std.specs.Prelude.{◌<◌, length};
 use crate::shown_sink::ShownSink;
 use crate::task::Shown;
 use block_data::{BLOCK, Hasher};
-use image_folder::{ABSENT, AREA, Opened, Program, Progress, Status, ended, name_in, parts_in};
+use image_folder::{
+    ABSENT, AREA, Opened, Program, Progress, Status, ended, name_in, parts_in, show_parts,
+};
 use image_store::{ShowFault, Which};
 use std::fs::File;
 use std::io;
@@ -101,15 +103,7 @@ fn fill<W: Write + Drop>(
     sink: &mut ShownSink<W>,
 ) -> Result<(), (u32, ShowFault)> {
     sink.progress = Progress::new(&opened.folder.program, word, blocks_of(opened, volumes));
-    let mut done = Ok(());
-    for volume in volumes {
-        if done.is_ok() && *volume < opened.store.volumes() {
-            done = opened
-                .store
-                .show(*volume, which, sink)
-                .map_err(|fault| (*volume, fault));
-        }
-    }
+    let done = show_parts(&mut opened.store, volumes, which, sink);
     sink.progress.clear();
     done
 }
