@@ -119,7 +119,7 @@ def read_and_checkpoint(path, is_over, seconds):
 def readers(room, is_all):
     """Readers keep frames in the log, and other connections bring them into the database as soon as they may: what is frozen stands still. The view of
     the first reader lasts to the end of the backup."""
-    room.create("long", 20000, {**BLOCKS, "appwal": 3000})
+    room.create("long", 20000, {**BLOCKS, "appwal": 8000})
     for seconds in (1000, *(0.05, 0.2) * (5 if is_all else 1)):
         process, is_over = room.start(room.job(), folder="long"), threading.Event()
         room.wait_for("prepare_backup ok", lambda: "prepare_backup ok" in room.said(process))
@@ -131,7 +131,7 @@ def readers(room, is_all):
             is_over.set()
             reader.join()
         room.judge(room.sets("long")[-1], "long")
-    sqlite3.connect(f"{room.path}/live/app.db", timeout=20).execute("PRAGMA wal_checkpoint(TRUNCATE)")
+        sqlite3.connect(f"{room.path}/live/app.db", timeout=20).execute("PRAGMA wal_checkpoint(TRUNCATE)")
     next_one(room, "readers")
 
 
