@@ -10,6 +10,8 @@ import tempfile
 
 sys.dont_write_bytecode = True  # nothing is written beside the sources
 TOP = os.path.dirname(os.path.dirname(os.path.abspath(__file__)))
+sys.path.append(f"{TOP}/tools")
+import crates
 CHECK = os.path.basename(sys.argv[0]).removesuffix(".py")
 BLOCK = 16384
 wrongs = []
@@ -17,16 +19,15 @@ wrongs = []
 
 def told_by(*words):
     """Calls a function of tools/program.sh. Returns its status, and what it printed."""
-    script = 'top="$1"; . "$top/tools/program.sh"; shift; "$@"'
-    done = subprocess.run(["bash", "-c", script, CHECK, TOP, *words], stdout=subprocess.PIPE, text=True, check=False)
-    return done.returncode, done.stdout.strip()
+    return crates.told_by(CHECK, *words)
 
 
 def begin(*names):
-    """Begins a check, in the top folder. Returns a folder of its own, and the programs of these crates."""
+    """Begins a check, in the top folder. Returns a folder of its own, in memory where there is one, and the programs of these crates."""
     os.chdir(TOP)
+    os.environ.update(PYTHONPATH=f"{TOP}/checks", PYTHONDONTWRITEBYTECODE="1")  # for scripts that are run
     signal.signal(signal.SIGTERM, lambda *_: sys.exit(1))
-    room, programs = tempfile.mkdtemp(), [told_by("program_to_run", name) for name in names]
+    room, programs = tempfile.mkdtemp(dir="/dev/shm" if os.access("/dev/shm", os.W_OK) else None), [told_by("program_to_run", name) for name in names]
     atexit.register(shutil.rmtree, room, True)
     if any(status for status, _ in programs):
         sys.exit(1)

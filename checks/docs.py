@@ -15,8 +15,8 @@ from common import wrongs as wrong
 
 begin()
 PAGES = ["README.md"] + sorted(glob.glob("docs/*.md")) + ["examples/README.md"] + sorted(glob.glob("crates/*/README.md"))
-SOURCES = """crates/*/src/*.rt crates/*/specs/*.antt crates/*/proofs/*.antt crates.txt checks/* checks/*/* tools/* tools/*/* examples/*.scenario
-    examples/*.report HANDLES tests prove vss timeline orders .ci/run""".split()
+SOURCES = """crates/*/src/*.rt crates/*/src/*/*.rt crates/*/specs/*.antt crates/*/proofs/*.antt crates.txt checks/* checks/*/* tools/* tools/*/*
+    examples/*.scenario examples/*.report HANDLES tests prove vss timeline orders .ci/run""".split()
 # Words of the kit, the host and the languages here, which no file of the repository need have.
 FOREIGN = set("""rt ci rattle-kit-13f rattle-kit-13b malloc realloc std serde_json json uuid sha2 clap hex itoa byteorder indexmap arrayvec
     atomic_table crossbeam_utils libc Send Sync Drop Copy Model sha256sum taskset rsync open ftruncate pread pwrite fdatasync close
@@ -104,7 +104,7 @@ def commands(page, text):
 
 def samples():
     """Each line of code of docs/LIBRARY.md, but for the comment behind it, is one of the examples, which are compiled and proved."""
-    code = {line.strip() for path in glob.glob("crates/example_*/src/*.rt") for line in text_of(path).splitlines()}
+    code = {line.strip() for path in glob.glob("crates/library_examples/src/*.rt") for line in text_of(path).splitlines()}
     for line in re.findall(r"^ {4}(.*)$", text_of("docs/LIBRARY.md"), re.M):
         shown = re.sub(r" +// .*$", "", line).strip()
         if shown not in code:

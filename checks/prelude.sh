@@ -25,16 +25,6 @@ ends() {
   exit 0
 }
 
-# A program refuses words: it ends with a status, its first line on the standard error is this one, and it writes nothing. It reads $room/in.
-refuses() {
-  local program="$1" wanted="$2" line="$3" said status
-  shift 3
-  [ -e "$room/in" ] || : > "$room/in"
-  said="$("$program" "$@" 2>&1 > "$room/out" < "$room/in")"
-  status=$?
-  [ "$status" = "$wanted" ] && [ "${said%%$'\n'*}" = "$line" ] && [ ! -s "$room/out" ] || wrong "\`$check $*\`: status $status, $said"
-}
-
 # Prints the path of a program of this crate: `vss="$(program vss)" || exit 1`.
 program() { program_to_run "$1"; }
 

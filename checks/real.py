@@ -1,7 +1,6 @@
-"""Streams and files as the system has them, of which no proof speaks: a pipe of the smallest capacity with a slow reader,
-a full device, a file that may not grow, an input that comes byte by byte, and one that fails in the middle; each block of
-each file where it has to be, as the reports, listings and summaries of the examples say; files that are there already;
-and which files are synced."""
+"""Streams and files as the system has them, of which no proof speaks: a pipe of the smallest capacity with a slow reader, a full device, a file that
+may not grow, an input that comes byte by byte, and one that fails in the middle; each block of each file where it has to be, as the reports, listings
+and summaries of the examples say; files that are there already; and which files are synced."""
 import ctypes
 import fcntl
 import hashlib

@@ -1,8 +1,8 @@
-"""Which words are a command; each line of checks/lines.table is read, or refused for its reason and no other; inputs of
-the greatest size and beyond, in less than 1,000,000 KiB of addresses: one line of sixteen MiB in each place that can have
-it, a hundred thousand empty lines, documents that nest deeply, numbers of millions of digits; and areas of which each
-field of the header and of three records is another, or that have another length. What is refused gets its status, one
-line on the standard error, and nothing on the standard output."""
+"""Which words are a command; each line of checks/lines.table is read, or refused for its reason and no other, and a person
+is told what helps; inputs of the greatest size and beyond, in less than 1,000,000 KiB of addresses: one line of sixteen MiB
+in each place that can have it, a hundred thousand empty lines, documents that nest deeply, numbers of millions of digits;
+and areas of which each field of the header and of three records is another, or that have another length. What is refused
+gets its status, one line on the standard error, and nothing on the standard output; `vss_tools explain` says the rest."""
 import os
 import re
 import resource
@@ -11,7 +11,7 @@ import struct
 import common
 from common import BLOCK, begin, ends, limited, ran, read, told_by
 
-FOLDER, PROGRAM = begin("vss")
+FOLDER, PROGRAM, TOOLS = begin("vss", "vss_tools")
 WRAPPER = os.path.abspath("vss")
 # (the slow build takes all addresses for its own use)
 ADDRESSES = "unlimited" if told_by("is_slow", PROGRAM)[0] == 0 else "1000000"
@@ -61,40 +61,82 @@ def words():
 
 # ## scenarios, and lines of them
 
+CLASS = '"class":"22222222-2222-4222-8222-222222222222"'
+MAIN = '[{"name":"main","path":"","selectable":true,"type":1}]'
+WRITER = f'{{{CLASS},"components":{MAIN},"level":2,"name":"Database","source":1,"usage":3}}'
+LANE = "scenario 1\nvolume C 4 4\nlane a\n"
+
+
+def document_of(edit):
+    """Returns the document of a writer, with another piece if one is named."""
+    old, _, new = edit[1].replace("ID ", CLASS[9:-1] + " ").partition(" ⇒ ")
+    if old and WRITER.count(old) != 1:
+        raise ValueError(f"{old} is in the document {WRITER.count(old)} times")
+    return WRITER.replace(old, new) if old else WRITER
+
+
 def text_of(shown):
-    """Returns the bytes of a text in a table, where \\n, \\t and \\\\ are a newline, a tab and a backslash."""
-    return re.sub(r"\\(.)", lambda it: {"n": "\n", "t": "\t"}.get(it[1], it[1]), shown).encode()
+    """Returns the bytes of a text in the table."""
+    whole = re.sub("«(.*?)»", document_of, shown)
+    signs = re.split(r"\\(x..|.)", whole)
+    signs[1::2] = ({"n": "\n", "t": "\t"}.get(it, chr(int(it[1:], 16)) if it[1:] else it) for it in signs[1::2])
+    return "".join(signs).encode("latin-1")
+
+
+def explained(kind, text, parts):
+    """Each of these parts is said of a text."""
+    said = ran([TOOLS, "explain", "scenario"], input=text).stdout.decode()
+    for part in parts:
+        holds(kind, part in said, f"of {text[:200]!r} it is said \"{said[:400]}\", and not \"{part}\"")
+    return said
 
 
 def lines():
     """Each line of checks/lines.table; where one that is read declares a volume, the report has that name."""
     before = ""
-    for row in re.split('\n|(?<=") / ', read("checks/lines.table").decode()):
-        head, _, body = row.rstrip('"').partition('"')
-        if head == "after ":
+    for row in re.split(r'\n| / (?=(?:text \d+ )?[A-Za-z]+ ")', read("checks/lines.table").decode()):
+        number, reason, body, parts = re.fullmatch(r'(?:text (\d+) )?(\w+) "(.*?)"(?: => (.*))?|.*', row).groups()
+        if reason == "after":
             before = body
-        elif head.startswith("text "):
-            _, number, reason = head.split()
-            refuses("lines", body, ran([PROGRAM, "run"], input=text_of(body)), 3, f"vss: line {number}: {reason}")
-        elif row and not row.startswith("#"):
-            text = text_of(f"{before}{body}\\n")
+        elif reason:
+            text = text_of(body if number else f"{before}{body}\\n")
             done = ran([PROGRAM, "run"], input=text)
-            if head != "read ":
-                refuses("lines", body, done, 3, f"vss: line {text.count(10)}: {head.strip()}")
-                continue
-            name = body.split(" ")[1].encode() if body.startswith("volume ") else b""
-            is_named = not name or b"\nvolume %s used 0 of " % name in done.stdout
-            is_so = done.returncode == 0 and not done.stderr and is_named
-            holds("lines", is_so, f"{body}: {done.stderr}, or another name of the volume")
+            if reason == "read":
+                name = body.split(" ")[1].encode() if body.startswith("volume ") else b""
+                is_named = not name or b"\nvolume %s used 0 of " % name in done.stdout
+                is_so = done.returncode == 0 and not done.stderr and is_named
+                holds("lines", is_so, f"{body}: {done.stderr}, or another name of the volume")
+            else:
+                refuses("lines", body, done, 3, f"vss: line {number or text.count(10)}: {reason}")
+                explained("explained", text, parts.split(" && ") if parts else [])
+
+
+# ## the forms that are told
+
+NAMES = dict(zip("FULL-NAME WRITER ORDER NTH CODE VOLUME NAME BLOCKS SLOTS AREA BLOCK BYTE NUMBER SET TICKS CONTEXT".split(),
+                 "main db freeze 2 VSS_E_WRITERERROR_TIMEOUT C n 2 1 G 1 7 9 1 5 9".split()), DOCUMENT=WRITER)
+SHORT = {"DOCUMENT": "rest", "FULL-NAME": "rest", "BYTE": "x", "NUMBER": "n", "TICKS": "n", "CONTEXT": "n", "1": "n"}
+
+
+def named(form, names):
+    return " ".join(names.get(word, word) for word in form.split(" "))
+
+
+def forms():
+    """The forms that are told are those of docs/FORMATS.md, and each is read by the program."""
+    told = ran([TOOLS, "explain", "forms"]).stdout.decode().splitlines()
+    rows = re.search(r"^\| Line \| Fields.*\n((?:.+\n)+)", read("docs/FORMATS.md").decode(), re.M)[1]
+    documented = [form for row in re.findall(r"^\| (`[^|]*) \|", rows, re.M) for form in re.findall("`([^`]*)`", row)]
+    other = set(documented) ^ {named(it, SHORT).lower() for it in told}
+    holds("forms", not other and len(documented) == len(told), f"docs/FORMATS.md has other forms than are told: {sorted(other)}")
+    for form in told:
+        before = f"scenario 1\nvolume C 4 4\nwriter db {WRITER}\narea G 4\n" if form[:8] != "scenario" else ""
+        lane = "lane a\n" if form.split(" ")[0] not in ("scenario", "area", "volume", "writer", "answer") else ""
+        done = ran([PROGRAM, "run"], input=f"{before}{lane}{named(form, NAMES)}\n".encode())
+        holds("forms", done.returncode == 0, f"the form \"{form}\" is told, and as \"{named(form, NAMES)}\" it gets {done.stderr}")
 
 
 # ## inputs of the greatest size and beyond
-
-MAIN = '[{"name":"main","path":"","selectable":true,"type":1}]'
-CLASS = '"class":"22222222-2222-4222-8222-222222222222"'
-WRITER = f'{{{CLASS},"components":{MAIN},"level":2,"name":"Database","source":1,"usage":3}}'
-LANE = "scenario 1\nvolume C 4 4\nlane a\n"
-
 
 def filled(before, letter, behind, size=MOST):
     """Returns a text of so many bytes, filled up with a letter."""
@@ -144,6 +186,36 @@ def large():
     for text in (filled("", "#", "\n", MOST + 1), "\n" * (MOST + 1)):
         done = ran([PROGRAM, "run"], input=text.encode(), **how)
         refuses("large inputs", "a byte too many", done, 8, "vss: input too long")
+
+
+MANY = (
+    ("volume vN 1 1", 129, "at most 128 volumes"), ("area vN 1", 129, "at most 128 areas"), ("lane lN", 65, "at most 64 lanes"),
+    (f"writer wN {WRITER}", 65, "at most 64 writers"),
+)
+
+
+def told_of_large():
+    """What is told of one line too many of each kind; of a line of five million bytes, cut; and of 16 MiB, in a second of a processor."""
+    for line, count, part in MANY:
+        text = "scenario 1\n" + "".join(line.replace("N", f"{n}", 1) + "\n" for n in range(1, count + 1))
+        told(text, count + 1, "TooMany", f"a scenario has {part}")
+    told("scenario 1\narea G 65536\nvolume C 65536 65536\n", 3, "TooMany", "at most 131072 blocks of all volumes and slots of all areas together")
+    told(LANE + "gather\n" * 2001 + "end\n" * 5, 2004, "TooMany", "at most 2000 `gather`, `prepare`, `snapshot` and `complete` lines")
+    told(LANE + "end\n" * 100001, 100004, "TooMany", "at most 100000 lines of all lanes together")
+    said = told(f"scenario 1\nvolume C {'4' * 5000000} 4\n", 2, "OutOfRange", "     2 | volume C 444", "BLOCKS is 1 to 65536 here")
+    holds("explained", len(said) < 1000, f"of a line of five million bytes {len(said)} are said")
+    comments = ("# a comment of forty bytes, or about that\n" * 400000)[:16777000]
+    for text, most in (LANE + "write C 4 fill 1\n", 0.1), (f"scenario 1\n{comments}\nvoluem\n", 1):
+        before = resource.getrusage(resource.RUSAGE_CHILDREN)
+        explained("explained", text.encode(), ["did you mean" if most == 1 else "BLOCK is 0 to 3"])
+        after = resource.getrusage(resource.RUSAGE_CHILDREN)
+        seconds = after.ru_utime + after.ru_stime - before.ru_utime - before.ru_stime
+        holds("explained", seconds <= most, f"{len(text)} bytes are explained in {seconds} s")
+
+
+def told(text, number, reason, *parts):
+    refuses("explained", text[:40], ran([PROGRAM, "run"], input=text.encode()), 3, f"vss: line {number}: {reason}")
+    return explained("explained", text.encode(), parts)
 
 
 # ## areas
@@ -221,6 +293,6 @@ def areas():
         listed(data, 2, told)
 
 
-for part in (words, lines, large, areas):
+for part in (words, lines, forms, large, told_of_large, areas):
     part()
-ends(", ".join(f"{count} {kind}" for kind, count in counts.items()) + " taken, read or refused as written")
+ends(", ".join(f"{count} {kind}" for kind, count in counts.items()) + " taken, read, refused or told as written")

@@ -1,12 +1,11 @@
-"""Volumes with images reply as a second reading of what they promise, checks/storage/volumes.py: copy-on-write volumes,
-also taken apart and up again; volumes with mirrors; images that writers mend; and volumes behind locks, two writers and a
-cut in every order of their calls, and in threads. Rows by hand, single calls of devices that fail, drawn lists, and the
-most that there may be.
+"""Volumes with images reply as a second reading of what they promise, checks/storage/volumes.py: copy-on-write volumes, also taken apart and up
+again; volumes with mirrors; images that writers mend; and volumes behind locks, two writers and a cut in every order of their calls, and in threads.
+Rows by hand, single calls of devices that fail, drawn lists, and the most that there may be.
 
-A file checks/storage/SUBJECT.rows has rows `CALL => REPLY`, with ` / ` between those of a line, worked out by hand. A call that
-replies nothing has no arrow, and a further line of a reply has no call. An empty line begins anew. A line `N times ROWS`
-stands for N lines, with the number of each in place of `#`. The rows have to be as the rules have it; the modules
-there make the drawn lists.
+A file checks/storage/SUBJECT.rows has rows `CALL => REPLY`, with ` / ` between those of a line, worked out by hand. `SHORT` has
+what is left out of a reply, or all of it, with the arrow. A call that replies nothing has no arrow, and a further line of
+a reply has no call. An empty line begins anew. A line `N times ROWS` stands for N lines, with the number of each in place of
+`#`. The rows have to be as the rules have it; the modules there make the drawn lists.
 
 In threads each of 3 writers makes 2,000 writes, the nth of which puts n into block n modulo 4; 12 cuts are made
 meanwhile. What has to be so is computed from the numbers that the entries of each writer have in the journal.
@@ -34,6 +33,39 @@ SUBJECTS = {
 }
 
 
+# how replies are written in the rows: of which subjects, to which calls, in short, and in full, where @ is the call's word
+SHORT = [re.fullmatch(r"([a-z ]+)  ([a-z_ -]+): ?(.*) => (.*)", line).groups() for line in r"""
+cow mirror recover  write: => Ok(Written { evicted_up_to: 0 })
+cow recover  write: (\d+) => Ok(Written { evicted_up_to: \1 })
+cow mirror  read image lend-image: (\d+) => Ok(Some(\1))
+recover  read image: (\d+) => Ok(Fill(\1))
+recover  read image: stamp (\d+) => Ok(Stamp(\1))
+mirror  step: (\d+) => Ok(Copied { block: \1 })
+mirror  step: => Ok(InStep)
+cow recover  cut: => ()
+cow mirror recover  cut drop revert flush sync pre_final recover: => Ok(())
+cow mirror recover  read image lend-image write cut drop revert flush sync step pre_final recover: ((?!Ok)[A-Z]\w+.*) => Err(\1)
+shards  volume shards draft: => Done
+shards  give_back: => GaveBack
+shards  collect gather: => @(Ok(()))
+shards  record: (\d+) => @(Ok(\1))
+shards  fill stamp: (\d+) => Write(Ok(\1))
+shards  fill stamp: (\w+) => Write(Err(\1))
+shards  image read: (\d+) => @(Ok(Fill(\1)))
+shards  image read: stamp (\d+) => @(Ok(Stamp(\1)))
+shards  collect record image read: (\w+) => @(Err(\1))
+shards  cuts number: (\d+) => @(\1)
+shards  is_held: (\w+) => IsHeld(\1)""".splitlines()[1:]]
+
+
+def in_full(subject, call, reply):
+    """A reply in full; nothing where a call has none."""
+    for subjects, words, short, full in SHORT:
+        if subject in subjects.split() and call.split()[0] in words.split() and (found := re.fullmatch(short, reply)):
+            return found.expand(full).replace("@", call.split()[0].title())
+    return reply
+
+
 def lines_of(path):
     for line in path.read_text(encoding="ascii").splitlines():
         times = re.match(r"(\d+) times ", line)
@@ -43,18 +75,24 @@ def lines_of(path):
             yield line
 
 
+def subject_of(name):
+    """The subject of a file or a list, whose name begins with it."""
+    return re.match("[a-z]+", name)[0]
+
+
 def rows_of(path, rules):
     """The calls of a file, each with the lines of its reply; those by rules have one subject from the first to the last."""
-    rows = []
+    rows, subject = [], subject_of(path.stem)
     for line in lines_of(path):
         if not line and not rules:
-            rows.append((f"subject {path.stem}", []))
+            rows.append((f"subject {subject}", []))
         for text in line.split(" / ") if line else ():
-            call, arrow, reply = text.partition("=> ")
-            if arrow and not call:
-                rows[-1][1].append(reply)
+            call, _, reply = text.partition("=> ")
+            if call:
+                reply = in_full(subject, call, reply)
+                rows.append((call.rstrip(), [reply] * bool(reply)))
             else:
-                rows.append((call.rstrip(), [reply] * bool(arrow)))
+                rows[-1][1].append(reply)
     return rows
 
 
@@ -74,7 +112,7 @@ def wrong_by_rules(name, rules, rows):
 def wrong_by_program(program, name, rows):
     """The first reply of the program that is another than its row has."""
     wanted = [(call, line) for call, lines in rows for line in lines]
-    said = said_to(program, re.match("[a-z]+", name)[0], [call for call, _ in rows])
+    said = said_to(program, subject_of(name), [call for call, _ in rows])
     differ = (f"{name}: of {call[:150]} it is said {reply[:150]}, and not {line[:150]}"
               for (call, line), reply in itertools.zip_longest(wanted, said, fillvalue=("", "")) if line != reply)
     return list(itertools.islice(differ, 1))

@@ -1,13 +1,12 @@
 #!/usr/bin/env bash
 # `./timeline` draws each example: as a drawing with one element for each line of the report but the first, in bands of at most 48, whose words
 # do not lie on one another, and as lines of at most 100 bytes. Those in docs/pictures are drawn again byte for byte. A long report is drawn in
-# 5 seconds of a processor and 500 MB of addresses. What is no report, what is another scenario's, and words that ask for nothing, have their
-# status, and a line that names file and line. It is drawn by the program as LLVM and, where that is there, as Rattle's own compiler builds it.
+# 5 seconds of a processor and 500 MB of addresses. It is drawn by the program as LLVM and, where that is there, as Rattle's own compiler builds it.
+# checks/messages/commands.table has what is no report.
 . "$(dirname "${BASH_SOURCE[0]}")/prelude.sh" || exit 70
 builds="$(tools timeline)" || exit 1
 mapfile -t builds <<< "$builds"
 scenarios=(examples/*.scenario examples/orders/*.scenario)
-usage="timeline: usage: timeline [--text] [--clock] [--overview] [--from N] [--to N] [SCENARIO REPORT]"
 
 # the elements of marks in the last drawing
 marks() { grep -c "^<g transform='translate([0-9]*,[0-9]*)'><title>" "$room/out"; }
@@ -61,44 +60,6 @@ by_clock() {
   ./timeline "$room/record" | cmp -s - "$room/out" || wrong "a record is drawn otherwise than by the clock"
 }
 
-# refuses texts, files and words
-refuses_all() {
-  local program="$1" first=examples/first.scenario report="$room/report"
-  printf 'report 1\n1 idle 5\nscenario 1\n' > "$room/in"
-  refuses "$program" 3 "timeline: standard input: line 3: no line of a report"
-  printf 'report 1\n\n\377\n' > "$room/in"
-  refuses "$program" 3 "timeline: standard input: line 3: no text: is it a report, as the program wrote it?"
-  : > "$room/in"
-  refuses "$program" 3 "timeline: standard input: line 1: no line of a report"
-  refuses "$program" 2 "$usage" examples/first.report
-  refuses "$program" 2 "$usage" -x "$first" examples/first.report
-  refuses "$program" 4 "timeline: $room/none: could not be read: No such file or directory (os error 2)" "$room/none" examples/first.report
-  refuses "$program" 8 "timeline: /dev/zero: too long: a scenario has 16,777,216 bytes at most, a report and an order 1,073,741,824" /dev/zero examples/first.report
-  refuses "$program" 3 "timeline: examples/first.report: line 1: UnknownWord" examples/first.report "$first"
-  refuses "$program" 3 "timeline: $room/in: line 1: Empty" "$room/in" examples/first.report
-  printf 'report 1\n1 lane r 1 ok\n' > "$report"
-  { echo "scenario 1"; seq 300 | sed 's/.*/volume V& 1 1/'; } > "$room/many"
-  refuses "$program" 3 "timeline: $room/many: line 130: TooMany" "$room/many" "$report"
-  printf 'scenario 1\nvolume C 1 1\n%s\nlane r\n# here\nbegin 25\nlane s\nend\n' "$(grep '^writer db' examples/lost_thaw.scenario | sed 's/ db / w /')" > "$room/other"
-  while read -r line; do
-    echo "report 1"$'\n'"1 lane r 6 ok"$'\n'"$line" > "$report"
-    refuses "$program" 3 "timeline: $report: line 3: a name that the scenario does not declare" "$room/other" "$report"
-  done << 'END'
-2 lane x 6 ok
-2 writer x freeze ok
-2 provider hold X
-= evicted 1 X
-= writer x lost freeze
-volume X used 0 of 1 0
-image 1 X 0
-writer x VSS_WS_STABLE aborts 0
-END
-  for line in 4 5 7 8 9 1; do
-    printf 'report 1\n1 lane r 6 ok\n2 lane r 0 ok\n3 lane r %s ok\n' "$line" > "$report"
-    refuses "$program" 3 "timeline: $report: line 4: a line that the scenario does not have in this lane" "$room/other" "$report"
-  done
-}
-
 # draws what is asked for, and escapes each text
 shows() {
   local program="$1"
@@ -125,7 +86,6 @@ for program in "${builds[@]}"; do
     run="examples/$(basename "$picture" .txt)"
     "$program" --text "$run.scenario" "$run.report" | cmp -s - "$picture" || wrong "$picture has other lines"
   done
-  refuses_all "$program"
   shows "$program"
 done
 # a report of 200,000 moves, one set after another; each image goes once the next stands

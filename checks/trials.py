@@ -1,14 +1,13 @@
-"""The service over streams and devices in memory: both volumes of a set are cut at one moment in each of 126 orders, and
-each call of the source, the sink and the devices that fails leads to a status that it may have; and each first part of a
-text is read or refused at its last line. In threads: the gate is told once before and once after each step of 129 actors,
-whatever the threads do; and of two hundred runs of lanes that are active at the same time each makes each line once, in
-order. That each report is that of its own legal and complete trail is proved (`run`, clause `done`)."""
+"""The service over streams and devices in memory: both volumes of a set are cut at one moment in each of 126 orders, and each call of the source, the
+sink and the devices that fails leads to a status that it may have; and each first part of a text is read or refused at its last line. In threads: the
+gate is told once before and once after each step of 129 actors, whatever the threads do; and of two hundred runs of lanes that are active at the same
+time each makes each line once, in order. That each report is that of its own legal and complete trail is proved (`run`, clause `done`)."""
 import itertools
 import re
 
 from common import begin, ends, holds, ran, read, write
 
-FOLDER, TRIAL, TOOLS, VSS = begin("trials_in_threads", "vss_tools", "vss")
+FOLDER, TRIAL, TOOLS, VSS = begin("trials", "vss_tools", "vss")
 
 
 # ## both volumes of a set are cut at one moment
@@ -24,9 +23,8 @@ MOVES = ["lane r"] * 5 + ["provider"] * 11 + ["lane r"] * 2
 
 
 def order_of(places):
-    """Returns the moves of a set over two volumes with four writes, each after so many of the other moves, and whether
-    the last one has to wait. Writes 1 and 3 are of the first volume, which is held from move 9 on; the others are of
-    the second, held one move later; each for four moves."""
+    """Returns the moves of a set over two volumes with four writes, each after so many of the other moves, and whether the last one has to wait.
+    Writes 1 and 3 are of the first volume, which is held from move 9 on; the others are of the second, held one move later; each for four moves."""
     order = []
     for after in range(len(MOVES) + 1):
         for write_of in range(4):

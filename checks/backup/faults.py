@@ -1,9 +1,5 @@
-#!/usr/bin/env python3
-"""What may go wrong in a backup, a row each: faults.py BACKUP IMAGES ORDERS ROOM [all]
-
-After each row the application runs, and the next backup keeps a version of one moment, without a person. Each record of a backup that ended is
-judged. With `all` also the rows that take long.
-"""
+"""What may go wrong in a backup, a row each. After each row the application runs, and the next backup keeps a version of one moment, without a person.
+Each record of a backup that ended is judged. `is_all` asks for the rows that take long too."""
 import os
 import random
 import signal
@@ -14,7 +10,7 @@ import threading
 import time
 
 from common import ran, write
-from room import BLOCKS, HERE, HOOKS, LIMIT, Room, Wrong, document, judged
+from room import BLOCKS, HERE, HOOKS, LIMIT, Room, Wrong, document
 
 # The orders before a set is kept, and those behind.
 BEFORE = ("identify", "prepare_backup", "prepare_snapshot", "freeze", "thaw")
@@ -263,14 +259,10 @@ def no_record(room, is_all):
 ROWS = (wrong_answers, slow_answers, no_holds, readers, strikes, kills, full_area, outgrown, no_room, full_disk, no_record)
 
 
-def main(words):
-    room, is_all = Room(words[:3], words[3]), words[4:] == ["all"]
-    with room:
+def main(programs, path, is_all):
+    with Room(programs, path) as room:
         for rows in ROWS:
             then = time.monotonic()
             rows(room, is_all)
             print(f"{rows.__name__.replace('_', ' ')}: {time.monotonic() - then:.1f} s", flush=True)
-    print(f"{len(ROWS)} kinds of faults; {room.told}")
-
-
-judged(main)
+    return f"{len(ROWS)} kinds of faults; {room.told}"

@@ -1,9 +1,8 @@
-#!/usr/bin/env python3
-"""Backups of a file system of its own, which `fsfreeze` holds still: mounted.py BACKUP IMAGES ORDERS ROOM COUNT
+"""Backups of a file system of its own, which `fsfreeze` holds still.
 
 The volume is the file of a loop device. On the file system are the application and, where its package is there, a PostgreSQL server, and both
 write all the time. Each version is mounted: the file system is whole, the databases are of one moment, the server starts on it, and what it had
-confirmed before the freeze is there. Where the machine lets nobody mount, it says so and ends with 77.
+confirmed before the freeze is there. Where the machine lets nobody mount, it says so.
 """
 import os
 import shutil
@@ -12,7 +11,7 @@ import sys
 import time
 
 from common import write
-from room import HOOKS, Room, Wrong, document, judged
+from room import HOOKS, Room, Wrong, document
 
 BLOCKS = 12000
 USER = "nobody"
@@ -63,6 +62,10 @@ class Client:
         self.process.wait()
 
 
+class NoMount(Exception):
+    """Nothing can be mounted here."""
+
+
 class Mounted(Room):
     """A room whose application lies on a file system of its own."""
 
@@ -75,8 +78,7 @@ class Mounted(Room):
             disk.truncate((BLOCKS - 1) * 16384)
         call("mkfs.ext4", "-q", "-F", f"{path}/disk")
         if subprocess.run(["mount", "-o", "loop", f"{path}/disk", self.mount], capture_output=True).returncode != 0:
-            print("nothing can be mounted here")
-            sys.exit(77)
+            raise NoMount
         os.chmod(self.mount, 0o755)
         super().__init__(programs, path, keeps=True, blocks={"disk": BLOCKS})
 
@@ -145,16 +147,17 @@ def back_up(room, client, number):
     return confirmed
 
 
-def main(words):
-    with Mounted(words[:3], words[3]) as room:
+def main(programs, path, count):
+    try:
+        mounted = Mounted(programs, path)
+    except NoMount:
+        return "nothing can be mounted here"
+    with mounted as room:
         if shutil.which("initdb") and shutil.which("runuser"):
             room.begin_server()
             for _step in range(100):
                 room.client.step()
-        for number in range(1, int(words[4]) + 1):
+        for number in range(1, count + 1):
             room.judge_mounted(number, room.client, back_up(room, room.client, number))
     what = f"{room.client.sent} transactions of a PostgreSQL server" if room.client else "no PostgreSQL server is here"
-    print(f"{words[4]} of {words[4]} versions of a file system are whole and of one moment; {room.told}; {what}")
-
-
-judged(main)
+    return f"{count} of {count} versions of a file system are whole and of one moment; {room.told}; {what}"

@@ -28,7 +28,7 @@ def document(name, digit, level, limit):
 
 class Room:
     def __init__(self, programs, path, slots=20000, blocks=None, keeps=False):
-        self.backup, self.images, self.orders = programs
+        self.backup, self.images, self.tools = programs
         self.path, self.count = path, 0
         if not keeps:
             shutil.rmtree(path, ignore_errors=True)
@@ -92,7 +92,7 @@ class Room:
         return status, self.said(process)
 
     def judge_record(self, record):
-        again = ran([self.orders, "again", f"{record}.scenario", f"{record}.report"])
+        again = ran([self.tools, "orders", "again", f"{record}.scenario", f"{record}.report"])
         if again.returncode != 0:
             raise Wrong(f"{record} is no record: {again.stderr or again.stdout}")
 
@@ -143,11 +143,3 @@ class Room:
         write(f"{self.path}/live/stop", b"")
         steps, longest = self.application.communicate(timeout=60)[0].split()
         self.told = f"{steps} steps of the application, the longest {longest} ms"
-
-
-def judged(main):
-    """Runs a script with its words, and ends with what is wrong."""
-    try:
-        main(sys.argv[1:])
-    except Wrong as wrong:
-        sys.exit(f"{wrong}")

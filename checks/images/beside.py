@@ -12,7 +12,9 @@ import sys
 import kill
 from common import read
 
-B = kill.B
+B = kill.plain.BLOCK
+# each scene but `create`
+SCENES = {name: text for name, text in kill.SCENES.items() if name != "create"}
 CHANGING = re.compile(rb"(volume \S+ blocks \d+) (length \d+|absent)")
 
 
@@ -115,7 +117,7 @@ def stop_at(scene, room, library, number, found):
 
 def main(program, library, room, step):
     places, found = 0, {"images": 0, 0: 0, 3: 0, 12: 0}
-    for scene, own in kill.scenes(program, room, [name for name in kill.SCENES if name != "create"]):
+    for scene, own in kill.scenes(program, room, SCENES):
         number = 1
         while stop_at(scene, own, library, number, found):
             number, places = number + step, places + 1

@@ -1,11 +1,9 @@
-"""Damages the files of a folder of images, one at a time, and sees that each is refused by its file and with its
-status, and that nothing is changed.
+"""Damages the files of a folder of images, one at a time, and sees that each is refused by its file and with its status, and that nothing is changed.
 
-Each byte of the state is another, and it is cut off or longer; each of its fields is another below a digest that is
-made anew; the files of volumes and the area have other sizes; the length in a volume's last block has no room; a file
-is missing, or is a link; each bit of a marker is another. A bit of each byte of volumes and of slots in use is another: `check`
-names the file and the block, and nothing that is shown with 0 has other bytes. A folder without sums is read and gets them. Folders
-and files are for their owner alone. And a second process is refused while a first has the folder.
+Each byte of the state is another, and it is cut off or longer; each of its fields is another below a digest that is made anew; the files of volumes
+and the area have other sizes; the length in a volume's last block has no room; a file is missing, or is a link; each bit of a marker is another. A
+bit of each byte of volumes and of slots in use is another: `check` names the file and the block, and nothing that is shown with 0 has other bytes. A
+folder without sums is read and gets them. Folders and files are for their owner alone. And a second process is refused while a first has the folder.
 """
 import fcntl
 import hashlib
@@ -165,12 +163,12 @@ class Damage:
         state = head + front + plain.sums_of(files["images.state"], (files["db.vol"], files["wal.vol"]), files["images.area"])
         return state + hashlib.sha256(state).digest()
 
-    def shown(self, right, what):
-        """All that is shown with 0 is right; the rest ends with 9 and one line. Returns what was refused."""
+    def shown(self, right, what, part=0):
+        """All that is shown with 0 is right; the rest ends with 9 and one line behind so many bytes. Returns what was refused."""
         refused = []
         for words, wanted in right.items():
             got = self.run("show", "F", *words.split())
-            if got.returncode == 9 and got.stderr.count(b"\n") == 1 and b"its sum is another" in got.stderr:
+            if got.returncode == 9 and got.stderr.count(b"\n") == 1 and b"its sum is another" in got.stderr and got.stdout == wanted[:part]:
                 refused.append(words)
             elif got.returncode or got.stdout != wanted:
                 sys.exit(f"{what}: show {words}: {got.returncode} {got.stderr}")
@@ -191,7 +189,8 @@ class Damage:
             told = f"slot {block - 2}: its sum is another than is kept; it has block {block - 2} of F/db.vol for set 1" if name == "images.area" else f"block {block}: its sum is another"
             self.refuses(name, bytes(data), 9, ["check", "F"], f"images: F/{name}: {told}".encode())
             write(f"F/{name}", bytes(data))
-            if self.shown(right, f"byte {at} of {name}") != needed[name, block]:
+            part = B if (name, block) in (("db.vol", 1), ("images.area", 3)) else 0
+            if self.shown(right, f"byte {at} of {name}", part) != needed[name, block]:
                 sys.exit(f"byte {at} of {name}: it is shown")
             write(f"F/{name}", self.whole[name])
         self.replaced(right)

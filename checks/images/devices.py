@@ -37,6 +37,26 @@ def made_longer(program, device):
     return process.returncode, said
 
 
+def on_itself(program, device):
+    """A folder that lies on the device does not keep it. Says how many calls were tried."""
+    os.mkdir("on")
+    if not shutil.which("mkfs.ext2") or ran(["mkfs.ext2", "-q", device]).returncode or ran(["mount", device, "on"]).returncode:
+        return 0
+    try:
+        write("small", b"small")
+        for status, told, words in (
+            (3, f"images: {device}: is the device on which on/F would lie\n", ["create", "on/F", "8", f"db={device}"]),
+            (0, "", ["create", "on/F", "8", "db:700=small"]),
+            (3, f"images: {device}: is a file of on/F, or the device on which it lies\n", ["update", "on/F", f"db={device}"]),
+        ):
+            got = ran([program, *words])
+            if (got.returncode, got.stderr.decode()) != (status, told):
+                sys.exit(f"{words}: {got.returncode} {got.stderr}, wanted {status} {told}")
+        return 3
+    finally:
+        subprocess.run(["umount", "on"], check=True)
+
+
 def tried(program, device):
     count, first = 0, read("disk")
 
@@ -68,4 +88,4 @@ def tried(program, device):
             status, said = made_longer(program, device)
     if status != 12 or f"{device}: changed while it was read: {len(first)} bytes and then {601 * B}" not in said:
         sys.exit(f"a device that got longer while it was read: {status} {said}")
-    return count
+    return count + on_itself(program, device)

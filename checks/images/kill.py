@@ -1,26 +1,19 @@
-"""Kills `images` at each call of the system that changes something, and sees that wrong bytes are never given as right
-ones.
+"""Kills `images` at each call of the system that changes something, and sees that wrong bytes are never given as right ones.
 
-Each scene is a folder that was made by some calls, and a call that is killed: before its Nth change, in the middle of
-it, or behind it, until it ends by itself. Then each image that `show` gives has the bytes of its cut; one that is not
-there was deleted, reverted past, or evicted, and one that was printed as evicted is not there; a volume that `show`
-gives is as before or as after; a call that does not bring all volumes in transit to other contents is refused. Once all
-volumes are updated, all agree.
+Each scene is a folder that was made by some calls, and a call that is killed: before its Nth change, in the middle of it, or behind it, until it ends
+by itself. Then each image that `show` gives has the bytes of its cut; one that is not there was deleted, reverted past, or evicted, and one that was
+printed as evicted is not there; a volume that `show` gives is as before or as after; a call that does not bring all volumes in transit to other
+contents is refused. Once all volumes are updated, all agree.
 """
 import copy
+import hashlib
 import os
 import shutil
 import sys
 
 import plain
-from common import ran, write
-
-B = plain.BLOCK
-
-
-def bytes_of(letters, tail=b""):
-    """A file of a block for each letter, and a tail."""
-    return b"".join(bytes([ord(letter)]) * B for letter in letters) + tail
+from common import ran, read, write
+from steps import bytes_of
 
 
 # what makes the folder: files, and calls; behind `|` what the files become, and the call. A file is a block for each letter, and a tail
@@ -46,17 +39,16 @@ create: db is ab+end / wal is +short / empty is + | create F 6 db:4=db wal=wal e
 
 def step(text):
     """A file and its bytes, or the words of a call."""
-    name, is_file, data = text.partition(" is ")
-    letters, _, tail = data.partition("+")
-    return (name, bytes_of(letters, tail.encode())) if is_file else text.split()
+    name, is_file, spec = text.partition(" is ")
+    return (name, bytes_of(spec)) if is_file else text.split()
 
 
 class Scene:
     """A scene that was made once, in a folder of its own."""
 
-    def __init__(self, program, room, name):
-        made, _, then = (part.split(" / ") for part in SCENES[name].partition(" | "))
-        self.program, self.name, self.base = program, name, os.path.join(room, "base")
+    def __init__(self, program, room, name, text=None):
+        made, _, then = (part.split(" / ") for part in (text or SCENES[name]).partition(" | "))
+        self.program, self.name, self.base, self.known = program, name, os.path.join(room, "base"), set()
         os.mkdir(self.base)
         self.before = plain.Plain({})
         for text in made:
@@ -86,8 +78,18 @@ class Scene:
     def wrong(self, place, what):
         sys.exit(f"{self.name}, {place}: {what}")
 
+    def is_known(self, folder, *what):
+        """Whether a folder of the same bytes was looked at so before: what it answers is known then."""
+        found = [what] + [[at[len(folder):], sorted(folders), [[name, hashlib.sha256(read(os.path.join(at, name))).hexdigest()] for name in sorted(names)]]
+                          for at, folders, names in sorted(os.walk(folder))]
+        is_known = repr(found) in self.known
+        self.known.add(repr(found))
+        return is_known
+
     def look_at_all(self, folder, place, printed):
         """Looks at what a call left that did not come to its end, and mends it."""
+        if self.is_known(folder, printed):
+            return
         if self.call[0] == "create":
             self.look_at_new(folder, place)
         else:
@@ -159,6 +161,8 @@ class Scene:
 
     def look_at_files(self, folder, place):
         """Each volume has its file, and all is whole."""
+        if self.is_known(folder, "files"):
+            return
         for name in self.names():
             shown = self.run(folder, ["show", "F", name])
             if shown.returncode or shown.stdout != self.before.files[name]:
@@ -175,6 +179,8 @@ class Scene:
         got = self.run(folder, ["update", "F", *[f"{name}={name}" for name in self.names()]])
         if got.returncode:
             self.wrong(place, f"update: {got.returncode} {got.stderr}")
+        if self.is_known(folder, "mended"):
+            return
         self.look_at_files(folder, place)
         for (name, number), data in self.images().items():
             self.shown_image(folder, f"{place}, an update", name, number, data)
@@ -210,12 +216,12 @@ class Scene:
         return True
 
 
-def scenes(program, folder, names=SCENES):
+def scenes(program, folder, texts=SCENES):
     """Yields each scene, with the folder that it has for itself."""
-    for name in names:
+    for name, text in texts.items():
         room = os.path.join(folder, name.replace(" ", "_"))
         os.mkdir(room)
-        yield Scene(program, room, name), room
+        yield Scene(program, room, name, text), room
         shutil.rmtree(room)
 
 

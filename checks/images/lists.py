@@ -1,9 +1,7 @@
-"""Draws lists of calls of `images`, makes each on real files, and compares what it prints, and its status, with
-plain.py.
+"""Draws lists of calls of `images`, makes each on real files, and compares what it prints, and its status, with plain.py.
 
-Each list has 6 to 14 calls over 1 to 3 files of 0 to 6 blocks, with 0 to 12 slots; some calls have a wrong word, name
-or set. At the end of each list every volume and image is shown, and the folder is checked. Before them, the most images
-and volumes are made.
+Each list has 6 to 14 calls over 1 to 3 files of 0 to 6 blocks, with 0 to 12 slots; some calls have a wrong word, name or set. At the end of each list
+every volume and image is shown, and the folder is checked. Before them, the most images and volumes are made.
 """
 import os
 import random

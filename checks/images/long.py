@@ -3,52 +3,41 @@ import json
 import os
 import sys
 
-from common import Calls, ran, read, write
+from common import BLOCK as B, Calls, ran
+from steps import take
 
-B = 16384
 PART = 65535 * B  # so many bytes of a file are in each volume but the last
+
+
+STEPS = r"""
+a is +aaa / b is +bbb / 3 create F 8 db..001=a => `..` and a number
+3 create F 8 nnnnnnnnnnnnnnnnnnnnnnnnnnnn:65537=a => more than 27 bytes, and 65537 blocks take several volumes
+0 create F 8 db=a other=b / 0 cut F db other => set 1 / 0 grow F db=131072 => volume db blocks 131072
+! [ "$(ls F/*.vol | xargs)" = 'F/db..001.vol F/db..002.vol F/db.vol F/other.vol' ]
+0 list F => volume db blocks 131072 length 3 | image 1 length 3 used 0 | volume other blocks 1 length 3 | image 1 length 3 used 0 | slots 0 of 8, last set 1
+3 grow F db=131072 => blocks: 131072, and it has 131072 already / 3 cut F db..001 => volume db..001: there is no such volume
+3 show F db..001 => volume db..001: there is no such volume / 3 remove F db..001 => volume db..001: there is no such volume
+3 update F db..001=a => volume db..001: there is no such volume / 3 revert F 1 db => db got more volumes since / 3 cut F db db => given twice
+0 cut F db other => set 2 / 0 diff F 2 => volume db written 0 | volume other written 0 / ! [ "$("$images" show F db)" = aaa ]
+! [ "$("$images" show F 2 db)$("$images" show F 1 db)" = aaaaaa ]
+"""
+REST = r"""
+! mkdir out / 0 restore F 2 out / ! [ "$(ls out | xargs)$(cat out/db)" = 'db otheraaa' ]
+0 delete F 2 db => deleted 1 / 0 prune --keep 1 F => deleted set 1: 2 / 0 remove F db => removed db: 0 / ! [ "$(ls F/*.vol)" = F/other.vol ]
+0 check F => whole: 1 volumes, 1 images, 0 of 8 slots
+"""
 
 
 def main(program, room, *lengths):
     """With lengths: files of so many bytes are kept, too, most of which are holes."""
     os.chdir(room)
     call = Calls(program, 3600)
-
-    def is_left(*names):
-        if sorted(of for of in os.listdir("F") if of.endswith(".vol")) != sorted(names):
-            sys.exit(f"of {names} there are {os.listdir('F')}")
-
-    write("a", b"aaa")
-    write("b", b"bbb")
-    call(3, "`..` and a number", "create", "F", "8", "db..001=a")
-    call(3, "more than 27 bytes, and 65537 blocks take several volumes", "create", "F", "8", "n" * 28 + ":65537=a")
-    call(0, "", "create", "F", "8", "db=a", "other=b")
-    call(0, "set 1\n", "cut", "F", "db", "other")
-    call(0, "volume db blocks 131072\n", "grow", "F", "db=131072")
-    is_left("db.vol", "db..001.vol", "db..002.vol", "other.vol")
-    call(0, "volume db blocks 131072 length 3\nimage 1 length 3 used 0\nvolume other blocks 1 length 3\nimage 1 length 3 used 0\nslots 0 of 8, last set 1\n", "list", "F")
-    call(3, "blocks: 131072, and it has 131072 already", "grow", "F", "db=131072")
-    for words in (["cut", "F", "db..001"], ["show", "F", "db..001"], ["remove", "F", "db..001"], ["update", "F", "db..001=a"]):
-        call(3, "volume db..001: there is no such volume", *words)
-    call(3, "db got more volumes since", "revert", "F", "1", "db")
-    call(3, "given twice", "cut", "F", "db", "db")
-    call(0, "set 2\n", "cut", "F", "db", "other")
-    call(0, "volume db written 0\nvolume other written 0\n", "diff", "F", "2")
-    call(0, "aaa", "show", "F", "db")
-    call(0, "aaa", "show", "F", "2", "db")
-    call(0, "aaa", "show", "F", "1", "db")
-    sets = json.loads(ran([program, "list", "--json", "F"]).stdout)
-    if [of["images"] for of in sets["sets"]] != [2, 2] or [(of["name"], of["blocks"], of["length"]) for of in sets["volumes"]] != [("db", 131072, 3), ("other", 1, 3)]:
-        sys.exit(f"list --json: {sets}")
-    os.mkdir("out")
-    call(0, "", "restore", "F", "2", "out")
-    if sorted(os.listdir("out")) != ["db", "other"] or read("out/db") != b"aaa":
-        sys.exit(f"restore: {os.listdir('out')}")
-    call(0, "deleted 1\n", "delete", "F", "2", "db")
-    call(0, "deleted set 1: 2\n", "prune", "--keep", "1", "F")
-    call(0, "removed db: 0\n", "remove", "F", "db")
-    is_left("other.vol")
-    call(0, "whole: 1 volumes, 1 images, 0 of 8 slots\n", "check", "F")
+    take(call, STEPS)
+    found = json.loads(ran([program, "list", "--json", "F"]).stdout)
+    sizes = [(of["name"], of["blocks"], of["length"]) for of in found["volumes"]]
+    if [of["images"] for of in found["sets"]] != [2, 2] or sizes != [("db", 131072, 3), ("other", 1, 3)]:
+        sys.exit(f"list --json: {found}")
+    take(call, REST)
     for length in lengths:
         keep(call, length)
     return f"{call.tried} calls on files longer than a volume"

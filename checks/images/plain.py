@@ -1,9 +1,8 @@
 """A folder of images as whole copies of files: what each call of `images` prints, and with which status it ends. A
 second reading, written from the description of the calls alone.
 
-A volume is the bytes of its file and a number of blocks; an image is a copy of these bytes. Blocks come in only where
-images go for want of slots: an image uses a slot for each block that was overwritten between its cut and the next one's
-on the same volume.
+A volume is the bytes of its file and a number of blocks; an image is a copy of these bytes. Blocks come in only where images go for want of slots: an
+image uses a slot for each block that was overwritten between its cut and the next one's on the same volume.
 """
 import hashlib
 import struct
@@ -28,6 +27,12 @@ FORMS = {
     "remove": "remove F NAME",
     "check": "check F",
 }
+# the forms that are drawn, of which the first that the words have is meant
+READ = {
+    "create": ["F SLOTS PAIR +"], "cut": ["F NAME +"], "update": ["F FILE +"], "list": ["F"], "diff": ["F SET", "F SET SET", "F SET NAME", "F SET SET NAME"],
+    "show": ["F NAME", "F SET NAME"], "digest": ["F NAME", "F SET NAME"], "delete": ["F SET", "F SET NAME"], "revert": ["F SET NAME"],
+    "grow": ["F SLOTS", "F GROWN"], "add": ["F PAIR"], "remove": ["F NAME"], "check": ["F"],
+}
 SLOTS = "; SLOTS says for how many old blocks of 16,384 bytes there is room: as many as change while a version is kept"
 
 
@@ -37,6 +42,12 @@ class Ends(Exception):
     def __init__(self, status, line):
         super().__init__(line)
         self.status, self.line = status, line
+
+
+def hold(condition, line, status=3):
+    """Ends the call with this line where the condition does not hold."""
+    if not condition:
+        raise Ends(status, line)
 
 
 def number(word, least):
@@ -57,6 +68,30 @@ def pair(word):
         return name, None, file
     blocks = number(blocks, 0)
     return None if blocks is None else (name, blocks, file)
+
+
+def grown(word):
+    """The name and the number of blocks of a word, or None."""
+    name, sign, blocks = word.partition("=")
+    return (name, number(blocks, 0)) if sign and number(blocks, 0) is not None else None
+
+
+KINDS = {
+    "F": str, "NAME": str, "SLOTS": lambda word: number(word, 0), "SET": lambda word: number(word, 1), "PAIR": pair, "GROWN": grown,
+    "FILE": lambda word: pair(word) if (pair(word) or ("", 0))[1] is None else None,
+}
+
+
+def read(task, words):
+    """What the words of a task are, by the first form that they have, or None."""
+    for form in READ[task]:
+        kinds = form.split()
+        if kinds[-1] == "+":
+            kinds[-1:] = kinds[-2:-1] * (len(words) - len(kinds) + 1)
+        values = [KINDS[kind](word) for kind, word in zip(kinds, words)]
+        if len(kinds) == len(words) and None not in values:
+            return values
+    return None
 
 
 def blocks_of(data, count):
@@ -187,24 +222,27 @@ class Store:
         return gone
 
     def named(self, folder, name):
-        found = next((v for v in self.volumes if v.name == name), None)
-        if found is None:
-            raise Ends(3, f"{folder}: volume {name}: there is no such volume; ./images list shows all")
-        return found
+        found = [v for v in self.volumes if v.name == name]
+        hold(found, f"{folder}: volume {name}: there is no such volume; ./images list shows all")
+        return found[0]
 
     def all_named(self, folder, names):
-        volumes = []
-        for name in names:
-            v = self.named(folder, name)
-            if v in volumes:
-                raise Ends(3, f"{folder}: volume {name}: given twice")
-            volumes.append(v)
-        return volumes
+        for place, name in enumerate(names):
+            self.named(folder, name)
+            hold(name not in names[:place], f"{folder}: volume {name}: given twice")
+        return [self.named(folder, name) for name in names]
 
     def image(self, folder, number_of_set, volume):
         found = volume.image(number_of_set)
-        if found is None:
-            raise Ends(3, f"{folder}: set {number_of_set}: there is no image of it on {volume.name}; ./images list shows all")
+        hold(found, f"{folder}: set {number_of_set}: there is no image of it on {volume.name}; ./images list shows all")
+        return found
+
+    def images(self, folder, number_of_set, volumes, is_named):
+        """Those of the volumes that have an image of a set: the one that is named, or some."""
+        if is_named:
+            self.image(folder, number_of_set, volumes[0])
+        found = [v for v in volumes if v.image(number_of_set)]
+        hold(found, f"{folder}: set {number_of_set}: there is no image of it; ./images sets shows all")
         return found
 
 
@@ -220,16 +258,15 @@ class Plain:
         out = []
         try:
             task, rest = (words[0], words[1:]) if words else ("", [])
-            if task not in FORMS:
-                raise Ends(2, "usage: " + " | ".join(FORMS.values()) + "; --wait SECONDS may stand before F")
+            hold(task in FORMS, "usage: " + " | ".join(FORMS.values()) + "; --wait SECONDS may stand before F", 2)
             if rest[:1] == ["--tries"]:
                 rest = rest[2:] if task in ("create", "update", "add") and number("".join(rest[1:2]), 1) else []
-            done = getattr(self, task)(rest, out)
-            if done is False:
-                raise Ends(2, "usage: " + FORMS[task] + self.more(task, words))
+            values = read(task, rest)
+            hold(values is not None, "usage: " + FORMS[task] + self.more(task, words), 2)
+            line = getattr(self, task)(out, *values)
+            return 0, b"".join(out), line
         except Ends as ended:
             return ended.status, b"".join(out), ended.line
-        return 0, b"".join(out), done if isinstance(done, str) else None
 
     @staticmethod
     def more(task, words):
@@ -243,115 +280,85 @@ class Plain:
     def read(self, path):
         if path == "-":
             return None
-        if path not in self.files:
-            raise Ends(4, f"{path}: could not be read: No such file or directory (os error 2)")
-        if self.files[path] is None:
-            raise Ends(4, f"{path}: is no file, but a directory")
+        hold(path in self.files, f"{path}: could not be read: No such file or directory (os error 2)", 4)
+        hold(self.files[path] is not None, f"{path}: is no file, but a directory", 4)
         return self.files[path]
 
     def store(self, folder):
-        if folder in self.stores:
-            return self.stores[folder]
         missing = "No such file or directory (os error 2)" if self.files.get(folder) is None else "Not a directory (os error 20)"
-        raise Ends(3, f"{folder}: no folder of images (images.state: {missing}); ./images create makes one of a new name")
+        hold(folder in self.stores, f"{folder}: no folder of images (images.state: {missing}); ./images create makes one of a new name")
+        return self.stores[folder]
 
-    def create(self, words, _out):
-        if len(words) < 3 or number(words[1], 0) is None:
-            return False
-        folder, slots, pairs = words[0], number(words[1], 0), [pair(w) for w in words[2:]]
-        if None in pairs:
-            return False
-        self.check_create(folder, slots, pairs)
-        volumes = []
-        for of in pairs:
-            volumes.append(self.new_volume(*of))
-            self.check_parts(sum(v.parts() for v in volumes))
-        self.stores[folder] = Store(slots, volumes)
-        return True
+    # ## what is refused
 
-    def new_volume(self, name, count, file):
+    def fits(self, name, count, file):
+        """The bytes of a file that a volume of so many blocks has room for."""
         data = self.read(file)
         length = len(data or b"")
-        if count is not None and length > BLOCK * count - 8:
-            raise Ends(3, f"{file}: length: {length} bytes, and {name} has room for {BLOCK * count - 8}; it needs {-(-(length + 8) // BLOCK)} blocks")
-        return Volume(name, data, (length + 8 + BLOCK - 1) // BLOCK if count is None else count)
+        told = f"{length} bytes, and {name} has room for {BLOCK * (count or 0) - 8}; it needs {-(-(length + 8) // BLOCK)} blocks"
+        hold(count is None or length <= BLOCK * count - 8, f"{file}: length: {told}")
+        return data
 
-    @staticmethod
-    def check_parts(total):
-        if total > 128:
-            raise Ends(3, f"volumes: {total}, at most 128")
+    def new_volume(self, name, count, file):
+        data = self.fits(name, count, file)
+        return Volume(name, data, -(-(len(data or b"") + 8) // BLOCK) if count is None else count)
 
     @staticmethod
     def check_more(store, more):
         total = sum(v.parts() for v in store.volumes)
-        if total + more > 128:
-            raise Ends(3, f"volumes: {total} are there and {more} would come, at most 128")
+        hold(total + more <= 128, f"volumes: {total} are there and {more} would come, at most 128")
 
     @staticmethod
     def check_count(name, count):
-        if count is not None and not 1 <= count <= MOST:
-            raise Ends(3, f"{name}: blocks: {count}, and a file has 1 to {MOST}")
+        hold(count is None or 1 <= count <= MOST, f"{name}: blocks: {count}, and a file has 1 to {MOST}")
 
     @staticmethod
     def check_slots(slots):
-        if slots > 65536:
-            raise Ends(3, f"SLOTS {slots}: at most 65536")
-
-    def check_create(self, folder, slots, pairs):
-        for place, (name, count, _file) in enumerate(pairs):
-            self.check_name(name)
-            if name in [earlier for earlier, _, _ in pairs[:place]]:
-                raise Ends(3, f"{folder}: volume {name}: given twice")
-            self.check_count(name, count)
-        self.check_slots(slots)
-        if len(pairs) > 128:
-            raise Ends(3, f"volumes: {len(pairs)}, at most 128")
-        if folder in self.stores or folder in self.files:
-            raise Ends(3, f"{folder}: is there already; create takes a new name, and ./images update a folder of images")
+        hold(slots <= 65536, f"SLOTS {slots}: at most 65536")
 
     @staticmethod
     def check_name(name):
-        if not name:
-            raise Ends(3, "name ``: is empty")
-        if len(name) > 32:
-            raise Ends(3, f"name `{name}`: more than 32 bytes")
-        if not (name[0].isascii() and name[0].isalpha()):
-            raise Ends(3, f"name `{name}`: a letter comes first")
-        if not all(c.isascii() and (c.isalnum() or c in "_-.") for c in name):
-            raise Ends(3, f"name `{name}`: letters, digits, `_`, `-` and `.` alone")
+        hold(name, "name ``: is empty")
+        hold(len(name) <= 32, f"name `{name}`: more than 32 bytes")
+        hold(name[0].isascii() and name[0].isalpha(), f"name `{name}`: a letter comes first")
+        hold(all(c.isascii() and (c.isalnum() or c in "_-.") for c in name), f"name `{name}`: letters, digits, `_`, `-` and `.` alone")
 
-    def cut(self, words, out):
-        if len(words) < 2:
-            return False
-        folder = words[0]
+    # ## the calls
+
+    def create(self, _out, folder, slots, *pairs):
+        for place, (name, count, _file) in enumerate(pairs):
+            self.check_name(name)
+            hold(name not in [earlier for earlier, _, _ in pairs[:place]], f"{folder}: volume {name}: given twice")
+            self.check_count(name, count)
+        self.check_slots(slots)
+        hold(len(pairs) <= 128, f"volumes: {len(pairs)}, at most 128")
+        is_there = folder in self.stores or folder in self.files
+        hold(not is_there, f"{folder}: is there already; create takes a new name, and ./images update a folder of images")
+        volumes = []
+        for of in pairs:
+            volumes.append(self.new_volume(*of))
+            total = sum(v.parts() for v in volumes)
+            hold(total <= 128, f"volumes: {total}, at most 128")
+        self.stores[folder] = Store(slots, volumes)
+
+    def cut(self, out, folder, *names):
         store = self.store(folder)
-        volumes = store.all_named(folder, words[1:])
+        volumes = store.all_named(folder, names)
         for v in volumes:
-            if len(v.images) >= 512:
-                raise Ends(3, f"{folder}: images of {v.name}: 512, at most 512; ./images prune deletes old ones")
+            hold(len(v.images) < 512, f"{folder}: images of {v.name}: 512, at most 512; ./images prune deletes old ones")
         store.last += 1
         for v in volumes:
             v.images.append(Image(store.last, v.data, v.tails))
         out.append(b"set %d\n" % store.last)
-        if any(set(words[1:]) <= line for line in store.together):
-            return True
-        return f"{folder}: set {store.last}: its files are not known to be of one moment; they are if one update of all of them comes before the cut"
+        told = "its files are not known to be of one moment; they are if one update of all of them comes before the cut"
+        return None if any(set(names) <= line for line in store.together) else f"{folder}: set {store.last}: {told}"
 
-    def update(self, words, out):
-        pairs = [pair(w) for w in words[1:]]
-        if not pairs or None in pairs or any(count is not None for _, count, _ in pairs):
-            return False
-        folder = words[0]
-        store = self.store(folder)
-        volumes = store.all_named(folder, [name for name, _, _ in pairs])
-        jobs = []
-        for v, (_, _, file) in zip(volumes, pairs):
-            data = self.read(file)
-            if len(data or b"") > BLOCK * v.count - 8:
-                raise Ends(3, f"{file}: length: {len(data)} bytes, and {v.name} has room for {BLOCK * v.count - 8}; it needs {-(-(len(data) + 8) // BLOCK)} blocks")
+    def update(self, out, folder, *pairs):
+        store, jobs, counts = self.store(folder), [], []
+        for v, (_, _, file) in zip(store.all_named(folder, [name for name, _, _ in pairs]), pairs):
+            data = self.fits(v.name, v.count, file)
             old, new = v.blocks(), blocks_of(data, v.count)
             jobs.append((v, data, [b for b in range(v.count) if old[b] != new[b]]))
-        counts = []
         for v, data, marked in jobs:
             copied = 0
             for b in marked:
@@ -362,161 +369,100 @@ class Plain:
             counts.append(b"%s written %d copied %d\n" % (v.name.encode(), len(marked), copied))
         for v, data, _ in jobs:
             v.data, v.tails = data, {}
-        store.bring([v.name for v in volumes])
+        store.bring([v.name for v, _, _ in jobs])
         out += counts
-        return True
 
-    def list(self, words, out):
-        if len(words) != 1:
-            return False
-        store = self.store(words[0])
+    def list(self, out, folder):
+        store = self.store(folder)
         for v in store.volumes:
             out.append(b"volume %s blocks %d %s\n" % (v.name.encode(), v.count, length_of(v.data)))
             out += [b"image %d %s used %d\n" % (i.set, length_of(i.data), len(i.copied)) for i in v.images]
         out.append(b"slots %d of %d, last set %d\n" % (store.used(), store.slots, store.last))
-        return True
 
-    def diff(self, words, out):
-        if len(words) < 2 or number(words[1], 1) is None:
-            return False
-        sets, names = [int(words[1])], words[2:]
-        if names and number(names[0], 1) is not None:
-            sets, names = [*sets, int(names[0])], names[1:]
-        if len(names) > 1:
-            return False
-        folder, store = words[0], self.store(words[0])
+    def diff(self, out, folder, *words):
+        store, sets, names = self.store(folder), [it for it in words if isinstance(it, int)], [it for it in words if isinstance(it, str)]
+        volumes = [store.named(folder, names[0])] if names else store.volumes
         for number_of_set in sets:
-            if names:
-                store.image(folder, number_of_set, store.named(folder, names[0]))
-            elif not any(v.image(number_of_set) for v in store.volumes):
-                raise Ends(3, f"{folder}: set {number_of_set}: there is no image of it; ./images sets shows all")
-        for v in store.volumes if not names else [store.named(folder, names[0])]:
+            store.images(folder, number_of_set, volumes, names)
+        for v in volumes:
             has = [number_of_set for number_of_set in sets if v.image(number_of_set)]
             if len(has) == len(sets):
                 blocks = v.written(sets[0], sets[1] if len(sets) == 2 else None)
                 out.append(f"volume {v.name} written {len(blocks)}{': ' if blocks else ''}{runs_of(blocks)}\n".encode())
             elif has:
                 out.append(f"volume {v.name} only in set {has[0]}\n".encode())
-        return True
 
-    def shown(self, words):
-        """The bytes that are shown, or None where the words are of another form."""
-        if len(words) not in (2, 3) or (len(words) == 3 and number(words[1], 1) is None):
-            return None
-        folder, name = words[0], words[-1]
-        store = self.store(folder)
+    def shown(self, folder, *of):
+        """The bytes of a volume, or of its image of a set."""
+        store, name = self.store(folder), of[-1]
         v = store.named(folder, name)
-        data = v.data if len(words) == 2 else store.image(folder, int(words[1]), v).data
-        if data is None:
-            raise Ends(13, f"{folder}: {name if len(words) == 2 else f'set {words[1]} of {name}'}: its file was not there")
+        data = v.data if len(of) == 1 else store.image(folder, of[0], v).data
+        hold(data is not None, f"{folder}: {name if len(of) == 1 else f'set {of[0]} of {name}'}: its file was not there", 13)
         return data
 
-    def show(self, words, out):
-        data = self.shown(words)
-        if data is None:
-            return False
-        out.append(data)
-        return True
+    def show(self, out, *of):
+        out.append(self.shown(*of))
 
-    def digest(self, words, out):
-        data = self.shown(words)
-        if data is None:
-            return False
-        out.append(hashlib.sha256(data).hexdigest().encode() + b"\n")
-        return True
+    def digest(self, out, *of):
+        out.append(hashlib.sha256(self.shown(*of)).hexdigest().encode() + b"\n")
 
-    def delete(self, words, out):
-        if len(words) not in (2, 3) or number(words[1], 1) is None:
-            return False
-        folder, number_of_set = words[0], int(words[1])
+    def delete(self, out, folder, number_of_set, *names):
         store = self.store(folder)
-        if len(words) == 3:
-            volumes = [store.named(folder, words[2])]
-            store.image(folder, number_of_set, volumes[0])
-        else:
-            volumes = [v for v in store.volumes if v.image(number_of_set)]
-            if not volumes:
-                raise Ends(3, f"{folder}: set {number_of_set}: there is no image of it; ./images sets shows all")
+        volumes = store.images(folder, number_of_set, [store.named(folder, name) for name in names] or store.volumes, names)
         for v in volumes:
             at = v.images.index(v.image(number_of_set))
             if at > 0:
                 v.images[at - 1].copied |= v.images[at].copied
             del v.images[at]
         out.append(b"deleted %d\n" % len(volumes))
-        return True
 
-    def revert(self, words, _out):
-        if len(words) != 3 or number(words[1], 1) is None:
-            return False
-        folder, number_of_set = words[0], int(words[1])
+    def revert(self, _out, folder, number_of_set, name):
         store = self.store(folder)
-        v = store.named(folder, words[2])
+        v = store.named(folder, name)
         image = store.image(folder, number_of_set, v)
         v.images = v.images[:v.images.index(image) + 1]
         image.copied = set()
         v.data, v.tails = image.data, dict(image.tails)
         store.bring([v.name])
-        return True
 
-    def grow(self, words, out):
-        if len(words) != 2:
-            return False
-        folder, (name, sign, word) = words[0], words[1].partition("=")
-        count = number(word if sign else name, 0)
-        if count is None:
-            return False
+    def grow(self, out, folder, room):
         store = self.store(folder)
-        if not sign:
-            self.check_slots(count)
-            if count <= store.slots:
-                raise Ends(3, f"SLOTS {count}: there are {store.slots} already; slots only get more")
-            store.slots = count
-            out.append(b"slots %d\n" % count)
-            return True
+        if isinstance(room, int):
+            self.check_slots(room)
+            hold(room > store.slots, f"SLOTS {room}: there are {store.slots} already; slots only get more")
+            store.slots = room
+            out.append(b"slots %d\n" % room)
+            return
+        name, count = room
         v = store.named(folder, name)
         self.check_count(name, count)
-        if count <= v.count:
-            raise Ends(3, f"{name}: blocks: {count}, and it has {v.count} already; a volume only grows")
+        hold(count > v.count, f"{name}: blocks: {count}, and it has {v.count} already; a volume only grows")
         self.check_more(store, Volume.parts_for(count) - v.parts())
         needed, free = sum(v.count - 1 in i.copied for i in v.images), store.slots - store.used()
-        if needed > free:
-            raise Ends(3, f"{folder}: slots: too few are free for the images of {name}; ./images grow {folder} SLOTS makes more")
+        hold(needed <= free, f"{folder}: slots: too few are free for the images of {name}; ./images grow {folder} SLOTS makes more")
         v.grow(count)
         out.append(b"volume %s blocks %d\n" % (name.encode(), count))
-        return True
 
-    def add(self, words, out):
-        if len(words) != 2 or pair(words[1]) is None:
-            return False
-        folder, (name, count, file) = words[0], pair(words[1])
-        store = self.store(folder)
+    def add(self, out, folder, of):
+        store, (name, count, file) = self.store(folder), of
         self.check_name(name)
-        if any(v.name == name for v in store.volumes):
-            raise Ends(3, f"{folder}: volume {name}: is there already; ./images update brings it to a file")
+        hold(all(v.name != name for v in store.volumes), f"{folder}: volume {name}: is there already; ./images update brings it to a file")
         self.read(file)
         self.check_count(name, count)
-        v = self.new_volume(name, count, file)
+        v = self.new_volume(*of)
         self.check_more(store, v.parts())
         store.volumes.append(v)
         store.bring([name])
         out.append(b"volume %s blocks %d\n" % (name.encode(), v.count))
-        return True
 
-    def remove(self, words, out):
-        if len(words) != 2:
-            return False
-        folder, store = words[0], self.store(words[0])
-        v = store.named(folder, words[1])
-        if len(store.volumes) == 1:
-            raise Ends(3, f"{folder}: volume {v.name}: is the only one; a folder has one at least")
+    def remove(self, out, folder, name):
+        store = self.store(folder)
+        v = store.named(folder, name)
+        hold(len(store.volumes) > 1, f"{folder}: volume {v.name}: is the only one; a folder has one at least")
         store.volumes.remove(v)
         out.append(b"removed %s: %d\n" % (v.name.encode(), len(v.images)))
-        return True
 
-    def check(self, words, out):
-        if len(words) != 1:
-            return False
-        store = self.store(words[0])
+    def check(self, out, folder):
+        store = self.store(folder)
         images = sum(len(v.images) for v in store.volumes)
         out.append(b"whole: %d volumes, %d images, %d of %d slots\n" % (len(store.volumes), images, store.used(), store.slots))
-        return True

@@ -1,12 +1,11 @@
 """Takes the power away from `images` at each call of the system that changes something, on a model of a disk, and sees
 that wrong bytes are never given as right ones.
 
-Each scene of kill.py is run once, and what it changes is recorded. For each place in it folders are made of what a disk
-may have then: what was synced, and of the rest nothing; or the names alone; or the contents alone; or drawn parts of
-both, twice. A file's contents are synced by a sync of the file, and names by one of their folder. Of contents each
-4,096 bytes may be there or not, of the names of a folder the first so many changes. Such a folder is then as after a
-kill. And the call is killed at each place, or one of its syncs fails: then what was written before that is in memory,
-and never comes to the disk by itself. All volumes are updated, and the power goes: they have their files.
+Each scene of kill.py is run once, and what it changes is recorded. For each place in it folders are made of what a disk may have then: what was
+synced, and of the rest nothing; or the names alone; or the contents alone; or drawn parts of both, twice. A file's contents are synced by a sync of
+the file, and names by one of their folder. Of contents each 4,096 bytes may be there or not, of the names of a folder the first so many changes. Such
+a folder is then as after a kill. And the call is killed at each place, or one of its syncs fails: then what was written before that is in memory, and
+never comes to the disk by itself. All volumes are updated, and the power goes: they have their files.
 """
 import copy
 import os

@@ -1,8 +1,7 @@
 """Where the standard error of `images` is a terminal, a line there shows how far it is, at most ten times a second, and
 is gone at the end; where it is none, nothing is written.
 
-It is tried with `show`, of which the output is taken slowly, and with the second pass of `update`, which waits in its
-midst.
+It is tried with `show`, of which the output is taken slowly, and with the second pass of `update`, which waits in its midst.
 """
 import os
 import pty

@@ -1,5 +1,4 @@
-"""Updates a folder of images from two files while a process writes them, and sees that no update that is done has files
-of two moments.
+"""Updates a folder of images from two files while a process writes them, and sees that no update that is done has files of two moments.
 
 The writer counts: it brings a number into all of `log` and then into all of `db`, and pauses now and then. It writes in
 place and puts the time of the last change back, or it renames new files into place. So at each moment each file has one

@@ -13,14 +13,8 @@ import threading
 import time
 
 import plain
-from common import Calls, files_below, limited, ran, read, write
-
-B = 16384
-
-
-def has(name, data, mode):
-    if read(name) != data or os.stat(name).st_mode & 0o7777 != mode or os.path.exists(f"{name}~restored"):
-        sys.exit(f"{name}: {len(read(name))} bytes of mode {os.stat(name).st_mode:o}, or a file beside it was left")
+from common import BLOCK as B, Calls, files_below, limited, ran, read, write
+from steps import take
 
 
 def forecasts(program, seed):
@@ -65,8 +59,6 @@ def forecasts(program, seed):
 
 def growth(call):
     """A folder without sums grows and gets them. A block with another sum is not moved, nor is its length kept: nothing is changed then."""
-    first = bytes([1]) * B
-
     def refused(name, at, told, *words):
         whole = read(f"H/{name}")
         write(f"H/{name}", whole[:at] + bytes([whole[at] ^ 1]) + whole[at + 1:])
@@ -76,20 +68,13 @@ def growth(call):
             sys.exit(f"{words}: something was changed")
         write(f"H/{name}", whole)
 
-    write("one", first)
-    call(0, "", "create", "H", "1", "one=one")
-    call(0, "set 1\n", "cut", "H", "one")
-    write("one", bytes([2]) * B)
-    call(0, "one written 1 copied 1\n", "update", "H", "one=one")
+    take(call, "one is a / 0 create H 1 one=one / 0 cut H one => set 1 / one is b / 0 update H one=one => one written 1 copied 1")
     write("H/images.state", plain.without_sums(read("H/images.state")))
-    call(0, "slots 1100\n", "grow", "H", "1100")
-    call(0, "whole: 1 volumes, 1 images, 1 of 1100 slots\n", "check", "H")
+    take(call, "0 grow H 1100 => slots 1100 / 0 check H => whole: 1 volumes, 1 images, 1 of 1100 slots")
     refused("images.area", 3 * B + 5, "slot 0: its sum is another", "grow", "H", "3000")
     refused("one.vol", 2 * B - 1, "block 1: its sum is another", "grow", "H", "one=9")
-    call(0, "slots 3000\n", "grow", "H", "3000")
-    call(0, "volume one blocks 9\n", "grow", "H", "one=9")
-    call(0, "whole: 1 volumes, 1 images, 1 of 3000 slots\n", "check", "H")
-    call(0, first.decode(), "show", "H", "1", "one")
+    take(call, "0 grow H 3000 => slots 3000 / 0 grow H one=9 => volume one blocks 9 / 0 check H => whole: 1 volumes, 1 images, 1 of 3000 slots")
+    call(0, "a" * B, "show", "H", "1", "one")
     shutil.rmtree("H")
 
 
@@ -177,163 +162,122 @@ def in_transit(program):
     return 6
 
 
-def main(program, room):
-    os.chdir(room)
-    call = Calls(program)
-    first, second, third = (bytes([byte]) * (3 * B) for byte in b"abc")
-    def words_of(name):
-        return [line.split()[0] for line in read(name).decode().splitlines()]
+SETS = r"set 1 (\S+)Z images 2 used 3 exclusive 3 shared 0\nset 2 (\S+)Z images 1 used 0 exclusive 0 shared 0: nightly, before the upgrade\n"
 
-    def lasts(name):
-        found = os.stat(name)
-        return found.st_mtime_ns, found.st_uid, found.st_gid
 
-    write("db", first)
-    os.chmod("db", 0o604)
-    os.utime("db", ns=(5, 1_600_000_000_123_456_789))
-    if os.geteuid() == 0:
-        os.chown("db", 1234, 1235)
-    then = lasts("db")
-    call(0, "", "create", "F", "6", "db=db", "log=-")
-    call(0, "set 1\n", "cut", "F", "db", "log")
-    write("db", second)
-    os.chmod("db", 0o640)
-    call(0, "db written 3 copied 3\n", "update", "F", "db=db")
-    call(0, "set 2\n", "cut", "--note", "nightly, before the upgrade", "F", "db")
+def listed(program):
+    """What `sets`, `list --json` and `diff --json` print of two sets."""
     sets = ran([program, "sets", "F"]).stdout.decode()
-    told = re.fullmatch(r"set 1 (\S+)Z images 2 used 3 exclusive 3 shared 0\nset 2 (\S+)Z images 1 used 0 exclusive 0 shared 0: nightly, before the upgrade\n", sets)
+    told = re.fullmatch(SETS, sets)
     moments = [datetime.datetime.fromisoformat(moment + "+00:00").timestamp() for moment in told.groups()] if told else []
     if not told or not time.time() - 60 < moments[0] <= moments[1] <= time.time():
         sys.exit(f"sets: {sets}")
-    listed = json.loads(ran([program, "list", "--json", "F"]).stdout)
-    if [of.pop("seconds") for of in listed["sets"]] != [int(moment) for moment in moments] or listed != {
+    found = json.loads(ran([program, "list", "--json", "F"]).stdout)
+    if [of.pop("seconds") for of in found["sets"]] != [int(moment) for moment in moments] or found != {
         "volumes": [{"name": "db", "blocks": 4, "length": 3 * B, "in_transit": False, "images": [
             {"set": 1, "length": 3 * B, "used": 3}, {"set": 2, "length": 3 * B, "used": 0}]},
             {"name": "log", "blocks": 1, "length": None, "in_transit": False, "images": [{"set": 1, "length": None, "used": 0}]}],
         "sets": [{"set": 1, "note": "", "images": 2, "used": 3, "exclusive": 3, "shared": 0},
             {"set": 2, "note": "nightly, before the upgrade", "images": 1, "used": 0, "exclusive": 0, "shared": 0}],
         "used": 3, "slots": 6, "last": 2}:
-        sys.exit(f"list --json: {listed}")
-    os.rename("F/images.dates", "dates")
-    call(0, "set 1 - images 2 used 3 exclusive 3 shared 0\nset 2 - images 1 used 0 exclusive 0 shared 0\n", "sets", "F")
-    os.rename("dates", "F/images.dates")
-    listed = json.loads(ran([program, "diff", "--json", "F", "1"]).stdout)
-    if listed != {"set": 1, "other": None, "volumes": [{"name": "db", "written": 3, "runs": [[0, 2]]}, {"name": "log", "written": 0, "runs": []}]}:
-        sys.exit(f"diff --json: {listed}")
-    call(0, "volume db written 3: 0-2\nvolume log only in set 1\n", "diff", "F", "2", "1")
-    call(0, "volume db written 0\n", "diff", "F", "2")
-    call(3, "set 2: there is no image of it on log", "diff", "F", "1", "2", "log")
-    call(3, "set 3: there is no image of it", "diff", "F", "1", "3")
-    call.tried += in_transit(program)
-    for note in ("two\nlines", "\x7f", "\u00e9", "n" * 101):
-        call(2, "usage: cut [--note TEXT] F NAME ..", "cut", "--note", note, "F", "db")
+        sys.exit(f"list --json: {found}")
+    found = json.loads(ran([program, "diff", "--json", "F", "1"]).stdout)
+    if found != {"set": 1, "other": None, "volumes": [{"name": "db", "written": 3, "runs": [[0, 2]]}, {"name": "log", "written": 0, "runs": []}]}:
+        sys.exit(f"diff --json: {found}")
 
-    for name, told in (("/dev/null", "/dev/null: is no file"), ("F", "F: is no file, but a directory")):
-        call(4, told, "update", "F", f"db={name}")
-    call(0, "", "restore", "F", "1", "db", "out")
-    has("out", first, 0o604)
-    if lasts("out") != then:
-        sys.exit(f"restore gave back {lasts('out')}, and not {then}")
-    call(3, "out: is there already; --over takes its place", "restore", "F", "2", "db", "out")
-    has("out", first, 0o604)
-    call(0, "", "restore", "--over", "F", "2", "db", "out")
-    has("out", second, 0o640)
-    if lasts("out") != lasts("db"):
-        sys.exit(f"restore gave back {lasts('out')}, and not {lasts('db')}")
-    call.tried += without_lists(program)
-    small_files = limited(resource.RLIMIT_FSIZE, 2 * B)
-    call(5, "out~restored: could not be written: File too large", "restore", "--over", "F", "1", "db", "out", preexec_fn=small_files)
-    has("out", second, 0o640)
-    for words in (["--over", "F", "1", "log", "out"], ["F", "1", "log", "out"], ["F", "1", "log", "none"]):
-        call(13, "set 1 of log: its file was not there", "restore", *words)
-    call(3, "there is no image of it", "restore", "--over", "F", "9", "db", "out")
-    has("out", second, 0o640)
-    call(0, "", "restore", "F", "db", "now")
-    has("now", second, 0o640)
-    os.symlink("out", "link")
-    call(3, "link: is no file", "restore", "--over", "F", "1", "db", "link")
-    call(5, "nowhere/out~restored: could not be made: there is no such folder; make it first", "restore", "F", "1", "db", "nowhere/out")
-    write("left~restored", b"of somebody else")
-    call(3, "left~restored: is left of a restore that did not end", "restore", "F", "1", "db", "left")
-    if read("left~restored") != b"of somebody else" or os.path.exists("left"):
-        sys.exit("left~restored was touched")
 
-    os.mkdir("all")
-    call(0, "", "restore", "F", "2", "all")
-    has("all/db", second, 0o640)
-    call(3, "all/db: is there already; --over takes its place", "restore", "F", "1", "all")
-    os.mkdir("all/log")
-    call(3, "all/log: is no file", "restore", "--over", "F", "1", "all")
-    os.rmdir("all/log")
-    call(5, "all/db~restored: could not be written: File too large", "restore", "--over", "F", "1", "all", preexec_fn=small_files)
-    has("all/db", second, 0o640)
-    got = ran([program, "restore", "--over", "F", "1", "all/"])
-    if got.returncode or got.stderr != b"images: F: set 1 of log: its file was not there\n" or os.listdir("all") != ["db"]:
-        sys.exit(f"restore of a set: {got.returncode} {got.stderr} {os.listdir('all')}")
-    has("all/db", first, 0o604)
-    write("all/log", b"newer")
-    write("all/db", b"newer")
-    for words in (["--over", "F", "1", "all"], ["F", "1", "all"]):
-        call(3, "all/log: is there, and was not in set 1; remove it first", "restore", *words)
-    if files_below("all") != {"all/db": b"newer", "all/log": b"newer"}:
-        sys.exit("a set that was refused left something")
-    os.symlink("F", "G")
-    before = files_below("F")
-    for target in ("F/db.vol", "F/images.area", "F/images.state", "F/new", "G/images.dates"):
-        call(3, f"{target}: lies in F", "restore", "--over", "F", "1", "db", target)
-    call(3, "G/db: lies in F", "restore", "F", "1", "G/")
-    if files_below("F") != before:
-        sys.exit("a restore into F changed it")
-    call(3, "set 9: there is no image of it", "restore", "F", "9", "all")
-    call(0, "", "create", "I", "0", "a=db", "a.restored=all/db")
-    call(0, "set 1\n", "cut", "I", "a", "a.restored")
-    os.mkdir("both")
-    call(0, "", "restore", "I", "1", "both")
-    if files_below("both") != {"both/a": second, "both/a.restored": b"newer"}:
-        sys.exit(f"a set with a name that ends in .restored: {os.listdir('both')}")
-    call(5, "nowhere/db~restored: could not be made: there is no such folder; make it first", "restore", "F", "2", "nowhere")
+def helps(program, word, form):
+    """The help of a word has its form and an example that is of it."""
+    said = ran([program, word, "-h"]).stdout.decode()
+    example = said.splitlines()[-1].split() if said else []
+    if not said.startswith(f"images {form}") or said != ran([program, word, "--help"]).stdout.decode() or example[:2] != ["./images", word] \
+            or ran([program, *example[1:]], cwd="/").returncode == 2:
+        sys.exit(f"{word} --help: {said}")
+    return 3
 
-    write("db", third)
-    call(0, "db would write 3 copy 3\nslots 3 needed, 3 free\n", "update", "--dry-run", "F", "db=db")
-    call(3, "volume db: given twice", "update", "--dry-run", "F", "db=db", "db=out")
-    call(0, "db written 3 copied 3\n", "update", "--keep", "2", "F", "db=db")
-    call(0, "set 3\n", "cut", "F", "db")
-    write("db", first)
-    area = read("F/images.area")
-    call(0, "db would write 3 copy 3\nslots 3 needed, 0 free\nset 1 would go\nrefused, as 2 of 3 sets would be left\n", "update", "--dry-run", "--keep", "3", "F", "db=db")
-    call(3, "sets: 2 would be left, and 3 are wanted at least", "update", "--keep", "3", "F", "db=db")
-    if read("F/images.area") != area or os.path.exists("F/images.open"):
-        sys.exit("an update that --keep refused wrote something")
-    call(0, "", "restore", "--over", "F", "1", "db", "out")
-    has("out", first, 0o604)
-    call(0, "deleted set 1: 2\n", "prune", "--keep", "2", "F")
-    call(0, "", "prune", "--keep", "2", "F")
-    call(3, "there is no image of it", "show", "F", "1", "db")
-    call(0, "deleted set 2: 1\n", "prune", "--keep", "1", "F")
-    if words_of("F/images.dates") != ["sha256", "1", "1=db", "2", "2=db", "3", "3=db"]:
-        sys.exit("a set that went lost its line before the next cut")
-    for words in (["prune", "F"], ["prune", "--keep", "0", "F"], ["list", "--over", "F"], ["sets", "--json", "F"], ["cut", "--keep", "1", "F", "db"], ["restore", "F", "db"], ["diff", "F", "db"], ["diff", "F", "1", "2", "db", "log"],
-                  ["create", "--wait", "1", "G", "1", "db=db"], ["list", "--wait", "1", "--wait", "1", "F"]):
-        call(2, "usage: ", *words)
 
-    for word, form in plain.FORMS.items():
-        said = ran([program, word, "-h"]).stdout.decode()
-        example = said.splitlines()[-1].split() if said else []
-        if not said.startswith(f"images {form}") or said != ran([program, word, "--help"]).stdout.decode() or example[:2] != ["./images", word] \
-                or ran([program, *example[1:]], cwd="/").returncode == 2:
-            sys.exit(f"{word} --help: {said}")
-        call.tried += 3
-    call(2, "usage: ", "nothing", "--help")
-
-    call.tried += sum(forecasts(program, seed) for seed in range(3)) + space(program)
-    growth(call)
+def waits(call):
+    """A call waits for another process."""
     held = os.open("F", os.O_RDONLY)
     fcntl.flock(held, fcntl.LOCK_EX)
     call(10, "in use by another process", "check", "F")
     call(10, "in use by another process", "check", "--wait", "1", "F")
     threading.Timer(0.5, lambda: fcntl.flock(held, fcntl.LOCK_UN)).start()
     call(0, "set 4\n", "cut", "--wait", "30", "F", "db")
-    if words_of("F/images.dates") != ["sha256", "3", "3=db", "4", "4=db"]:
-        sys.exit("a set that went kept its line")
+
+
+TWO_SETS = r"""
+db is aaa
+! chmod 604 db; touch -d @1600000000.123456789 db; [ "$(id -u)" != 0 ] || chown 1234:1235 db; stat -c '%y %u %g' db > then
+0 create F 6 db=db log=- / 0 cut F db log => set 1 / db is bbb / ! chmod 640 db / 0 update F db=db => db written 3 copied 3
+0 cut --note 'nightly, before the upgrade' F db => set 2
+"""
+DIFFERENCES = r"""
+! mv F/images.dates dates
+0 sets F => set 1 - images 2 used 3 exclusive 3 shared 0 | set 2 - images 1 used 0 exclusive 0 shared 0 / ! mv dates F/images.dates
+0 diff F 2 1 => volume db written 3: 0-2 | volume log only in set 1 / 0 diff F 2 => volume db written 0
+3 diff F 1 2 log => set 2: there is no image of it on log / 3 diff F 1 3 => set 3: there is no image of it
+"""
+RESTORES = r"""
+4 update F db=/dev/null => /dev/null: is no file / 4 update F db=F => F: is no file, but a directory
+0 restore F 1 db out / out has aaa 604 / ! stat -c '%y %u %g' out | cmp - then
+3 restore F 2 db out => out: is there already; --over takes its place / out has aaa 604
+0 restore --over F 2 db out / out has bbb 640 / ! cmp <(stat -c '%y %u %g' out) <(stat -c '%y %u %g' db)
+"""
+KEEPS = r"""
+5 small restore --over F 1 db out => out~restored: could not be written: File too large / out has bbb 640
+13 restore --over F 1 log out => set 1 of log: its file was not there / 13 restore F 1 log out => set 1 of log: its file was not there
+13 restore F 1 log none => set 1 of log: its file was not there / 3 restore --over F 9 db out => there is no image of it / out has bbb 640
+0 restore F db now / now has bbb 640 / ! ln -s out link / 3 restore --over F 1 db link => link: is no file
+5 restore F 1 db nowhere/out => nowhere/out~restored: could not be made: there is no such folder; make it first
+! printf 'of somebody else' > left~restored / 3 restore F 1 db left => left~restored: is left of a restore that did not end
+! [ "$(cat left~restored)" = 'of somebody else' ] && [ ! -e left ]
+! mkdir all / 0 restore F 2 all / all/db has bbb 640 / 3 restore F 1 all => all/db: is there already; --over takes its place
+! mkdir all/log / 3 restore --over F 1 all => all/log: is no file / ! rmdir all/log
+5 small restore --over F 1 all => all/db~restored: could not be written: File too large / all/db has bbb 640
+! [ "$("$images" restore --over F 1 all/ 2>&1)" = 'images: F: set 1 of log: its file was not there' ] / all/db has aaa 604 / ! [ "$(ls all)" = db ] / ! echo newer | tee all/log > all/db
+3 restore --over F 1 all => all/log: is there, and was not in set 1; remove it first
+3 restore F 1 all => all/log: is there, and was not in set 1; remove it first
+! [ "$(ls all)" = $'db\nlog' ] && [ "$(cat all/db all/log)" = $'newer\nnewer' ] / ! ln -s F G; cp -a F before
+3 restore --over F 1 db F/db.vol => F/db.vol: lies in F / 3 restore --over F 1 db F/images.area => F/images.area: lies in F
+3 restore --over F 1 db F/images.state => F/images.state: lies in F / 3 restore --over F 1 db F/new => F/new: lies in F
+3 restore --over F 1 db G/images.dates => G/images.dates: lies in F / 3 restore F 1 G/ => G/db: lies in F / ! diff -r F before
+3 restore F 9 all => set 9: there is no image of it / 0 create I 0 a=db a.restored=all/db / 0 cut I a a.restored => set 1 / ! mkdir both
+0 restore I 1 both / ! cmp both/a db && cmp both/a.restored all/db && [ "$(ls both | wc -l)" = 2 ]
+5 restore F 2 nowhere => nowhere/db~restored: could not be made: there is no such folder; make it first
+"""
+PRUNES = r"""
+db is ccc / 0 update --dry-run F db=db => db would write 3 copy 3 | slots 3 needed, 3 free
+3 update --dry-run F db=db db=out => volume db: given twice / 0 update --keep 2 F db=db => db written 3 copied 3 / 0 cut F db => set 3
+db is aaa / ! cp F/images.area area
+0 update --dry-run --keep 3 F db=db => db would write 3 copy 3 | slots 3 needed, 0 free | set 1 would go | refused, as 2 of 3 sets would be left
+3 update --keep 3 F db=db => sets: 2 would be left, and 3 are wanted at least / ! cmp F/images.area area && [ ! -e F/images.open ]
+0 restore --over F 1 db out / out has aaa 604 / 0 prune --keep 2 F => deleted set 1: 2 / 0 prune --keep 2 F
+3 show F 1 db => there is no image of it / 0 prune --keep 1 F => deleted set 2: 1
+! [ "$(cut -d ' ' -f 1 F/images.dates | tr '\n' ' ')" = 'sha256 1 1=db 2 2=db 3 3=db ' ]
+2 prune F => usage:  / 2 prune --keep 0 F => usage:  / 2 list --over F => usage:  / 2 sets --json F => usage:  / 2 cut --keep 1 F db => usage: 
+2 restore F db => usage:  / 2 diff F db => usage:  / 2 diff F 1 2 db log => usage:  / 2 create --wait 1 G 1 db=db => usage: 
+2 list --wait 1 --wait 1 F => usage:  / 2 nothing --help => usage: 
+"""
+
+
+def main(program, room):
+    os.chdir(room)
+    call = Calls(program)
+    take(call, TWO_SETS)
+    listed(program)
+    take(call, DIFFERENCES)
+    for note in ("two\nlines", "\x7f", "\u00e9", "n" * 101):
+        call(2, "usage: cut [--note TEXT] F NAME ..", "cut", "--note", note, "F", "db")
+    call.tried += in_transit(program)
+    take(call, RESTORES)
+    call.tried += without_lists(program)
+    take(call, KEEPS)
+    take(call, PRUNES)
+    call.tried += sum(helps(program, word, form) for word, form in plain.FORMS.items())
+    call.tried += sum(forecasts(program, seed) for seed in range(3)) + space(program)
+    growth(call)
+    waits(call)
+    take(call, "! [ \"$(cut -d ' ' -f 1 F/images.dates | tr '\\n' ' ')\" = 'sha256 3 3=db 4 4=db ' ]")
     os.chdir("/")
     return f"{call.tried} calls of restore, sets, diff, prune, --keep, --wait and --help"

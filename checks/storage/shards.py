@@ -1,7 +1,6 @@
 """Volumes behind locks of their own: two writers and one who makes a cut, in every order of their calls.
 
-What is replied is computed from lists of writes alone: a held volume refuses a write; an image has what the writes
-before it was held left.
+What is replied is computed from lists of writes alone: a held volume refuses a write; an image has what the writes before it was held left.
 """
 WRITERS = [
     [(0, 0, 1), (0, 1, 2)],  # volume, block, byte

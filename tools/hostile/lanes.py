@@ -1,13 +1,15 @@
 """Runs of the program for the scripts beside this folder: many, some side by side, with bounds of memory and time."""
+import collections
 import multiprocessing
 import os
 import resource
 import signal
 import sys
 import tempfile
+import time
 
 TOP = os.path.dirname(os.path.dirname(os.path.dirname(os.path.realpath(__file__))))
-PROVED, TRIAL, TOOLS = (f"{TOP}/crates/{name}/out/{name}" for name in ("vss", "trials_in_threads", "vss_tools"))
+PROVED, TRIAL, TOOLS = (f"{TOP}/crates/{name}/out/{name}" for name in ("vss", "trials", "vss_tools"))
 
 
 class Hung(Exception):
@@ -74,6 +76,30 @@ def in_lanes(make_worker, tasks, lanes):
     with tempfile.TemporaryDirectory(prefix="hostile-", dir="/dev/shm" if os.path.isdir("/dev/shm") else None) as room:
         with multiprocessing.get_context("fork").Pool(lanes, begin, (make_worker, room)) as pool:
             yield from pool.imap_unordered(work, tasks)
+
+
+def tried(name, make_worker, tasks, lanes, kept=None):
+    """Lets workers make tasks, and prints a table: of each row what came how often, the highest memory, and the seconds. What is wrong is said, with its
+    input in a folder where one is kept. Returns how much was wrong."""
+    began, rows, failed = time.monotonic(), {}, 0
+    for row, came, kib, seconds, wrongs in in_lanes(make_worker, tasks, lanes):
+        for held in (rows.setdefault(row, [collections.Counter(), 0, 0.0]), rows.setdefault("", [collections.Counter(), 0, 0.0])):
+            held[0].update(came)
+            held[1:] = max(held[1], kib), held[2] + seconds
+        for place, wrong, text in wrongs:
+            failed += 1
+            if kept:
+                os.makedirs(kept, exist_ok=True)
+                with open(f"{kept}/{place}", "wb") as file:
+                    file.write(text)
+            if failed <= 20:
+                print(f"{name}: {f'{kept}/' if kept else ''}{place}: {wrong}", file=sys.stderr)
+    print(f"{name:<50}{'runs':>8}{'MiB':>6}{'seconds':>9}  what came of them")
+    for row, (came, kib, seconds) in [*((it, rows[it]) for it in rows if it), ("all", rows[""])]:
+        said = ", ".join(f"{what} {count}" for what, count in came.most_common())
+        print(f"{row:<50}{sum(came.values()):>8}{kib // 1024:>6}{seconds:>9.1f}  {said}")
+    print(f"{name}: {failed} wrong, {time.monotonic() - began:.0f} seconds in {lanes} lanes")
+    return failed
 
 
 def lane_numbers(report):

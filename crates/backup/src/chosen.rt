@@ -1,4 +1,4 @@
-use live_backup::JobVolume;
+use crate::driving::JobVolume;
 use std::alloc::Global;
 use vss_names::OutOfMemory;
 

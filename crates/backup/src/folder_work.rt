@@ -4,11 +4,11 @@ ghost use Rattle.image_folder.specs.Parts.{AreVolumes};
 
 use crate::capture::{Capture, check_all, fault_of, overwrite, read_part, take_all};
 use crate::chosen::Chosen;
+use crate::driving::JobVolume;
 use image_folder::{
     FileInput, Job as Passes, Opened, Program, Status, Way, add_jobs, compare, ended, goes_up_to,
     open, say, sets_of, want_of,
 };
-use live_backup::JobVolume;
 use std::mem;
 use std::time::Instant;
 

@@ -9,16 +9,17 @@
 mod capture;
 mod chosen;
 mod copier;
+mod driving;
 mod folder_work;
 mod record;
 mod refused_job;
 mod shown;
 
+use crate::driving::{Backup, Happened, Job, Next, Setting};
 use chosen::Chosen;
 use copier::FolderCopier;
 use folder_work::{FolderWork, since};
 use image_folder::{Program, ProgramName, Status, ended};
-use live_backup::{Backup, Happened, Job, Next, Setting};
 use refused_job::{refused_setting, refused_text};
 use shown::Shown;
 use std::io::{BufRead, BufReader};

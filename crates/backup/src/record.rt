@@ -1,8 +1,8 @@
 //! The record of a run: a scenario, and the report of a legal and complete run of it that begins with the moves that were made.
 
 use crate::copier::FolderCopier;
+use crate::driving::Backup;
 use image_folder::{Program, Status, ended};
-use live_backup::Backup;
 use orders::{MOST_BYTES, report_of_told};
 use std::alloc::Global;
 use std::fs;

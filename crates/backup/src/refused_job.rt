@@ -1,7 +1,7 @@
 //! What is said of a job that is refused: the place, what stands there, and why.
 
+use crate::driving::{Job, JobFault, JobReason, SettingFault};
 use image_folder::{Program, Status, ended};
-use live_backup::{Job, JobFault, JobReason, SettingFault};
 use vss_names::{MOST_VOLUMES, MOST_WRITERS};
 use writer_meta::{MetaFault, Metadata};
 

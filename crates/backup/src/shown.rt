@@ -1,7 +1,7 @@
 use crate::copier::FolderCopier;
+use crate::driving::{Backup, Job};
 use backup_ledger::Deed;
 use image_folder::{Program, Status};
-use live_backup::{Backup, Job};
 use std::alloc::Global;
 
 /// What was printed of a backup: so many bytes of its report, and so many deeds.

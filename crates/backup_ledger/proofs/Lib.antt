@@ -1,3 +1,1 @@
-mod Kept
-mod Right
-mod Told
+mod RightDeeds

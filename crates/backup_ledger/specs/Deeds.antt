@@ -1,11 +1,14 @@
--- The deeds of a backup, and which of them may come after others. (This project's own.)
-use Rattle.std.specs.Prelude.{ℕ, Bool, true, false, List, [], ◌∷◌, ◌++◌, filter, not, ◌==◌, ◌&&◌, if◌then◌else◌}
+-- The deeds of a backup, which of them may come after others, and what a kept set is: a version of one moment. (This project's own.)
 use Rattle.std.specs.List.{list_all, list_any}
+use Rattle.std.specs.Prelude.{ℕ, Bool, true, false, List, [], ◌∷◌, ◌++◌, filter, not, ◌==◌, ◌&&◌, if◌then◌else◌, ◌≡◌}
 use Rattle.vss_names.specs.declared.order.Order.{Order}
 use Rattle.vss_names.specs.declared.order.Order.TheVariants as order
+use Rattle.writer_calls.specs.declared.answer.Answer.{Answer}
 use Rattle.writer_calls.specs.declared.answer.Answer.TheVariants as said
 use Rattle.backup_ledger.specs.declared.deed.Deed.{Deed}
 use Rattle.backup_ledger.specs.declared.deed.Deed.TheVariants.{Said, Heard, ToldAbort, Near, Read, Kept}
+
+-- ## The deeds of a backup, and which of them may come after others. (This project's own.)
 
 -- what a contract sees of a ledger: the writers that take part, the volumes of the set, and the deeds in order
 pub record LedgerValue : Type 0 where
@@ -123,3 +126,29 @@ may_come writers volumes ds _ = true
 abbrev pub are_right : List ℕ → List ℕ → List Deed → List Deed → Bool
 are_right writers volumes before [] = true
 are_right writers volumes before (d ∷ ds) = may_come writers volumes before d && are_right writers volumes (before ++ d ∷ []) ds
+
+-- ## What a kept set is: a version of one moment. And what is left of a backup that is over. (This project's own.)
+
+-- a set that is kept after these deeds is of one moment
+pub record IsOfOneMoment (writers volumes : List ℕ) (before : List Deed) : Type 0 where
+  -- each volume of the set was read to its end
+  pub whole : all_read volumes before ≡ true
+  -- at each part that was read, each writer that takes part had said that it is frozen, and nobody had been let go; and no part of a volume
+  -- was read again behind its last
+  pub still : (a b : List Deed) (v : ℕ) (last : Bool) → before ≡ a ++ Read v last ∷ b
+      → (all_froze writers a ≡ true) × (list_any is_thaw a ≡ false) × (list_any (is_read_out v) a ≡ false)
+  -- who answers an order to freeze or to thaw had been told so; so an ok to thaw comes behind every part that was read
+  pub asked : (a b : List Deed) (w : ℕ) (o : Order) (answer : Answer) → before ≡ a ++ Heard w o answer ∷ b → may_hear a w o ≡ true
+  -- each writer that takes part then said that it stood frozen to its thaw
+  pub stood : all_stood writers before ≡ true
+  -- nobody was told of an abort, and this is the only set
+  pub given_up : list_any is_abort before ≡ false
+  pub once : list_any is_kept before ≡ false
+
+-- each set that was kept is
+abbrev pub AreOfOneMoment : LedgerValue → Type 0
+AreOfOneMoment l = (before rest : List Deed) (n : ℕ) → l.deeds ≡ before ++ Kept n ∷ rest → IsOfOneMoment l.writers l.volumes before
+
+-- it is over: if nothing is kept, each writer that takes part was told of the abort
+abbrev pub IsEnded : LedgerValue → Type 0
+IsEnded l = list_any is_kept l.deeds ≡ false → all_told l.writers l.deeds ≡ true

@@ -1,7 +1,6 @@
 ghost use Rattle.std.specs.Prelude.{◌≡◌, ◌++◌, ◌∷◌, ◌+◌, [], true, false, take, IfOk, OnOk, OnErr, IsErrOf};
 ghost use Rattle.std.specs.List.{list_any};
-ghost use Rattle.backup_ledger.specs.Deeds.{all_told, copied, is_kept, is_told, may_hear, may_keep, may_read, may_say};
-ghost use Rattle.backup_ledger.specs.OneMoment.{AreOfOneMoment, IsEnded};
+ghost use Rattle.backup_ledger.specs.Deeds.{all_told, copied, is_kept, is_told, may_hear, may_keep, may_read, may_say, AreOfOneMoment, IsEnded};
 
 use crate::copier::Copier;
 use crate::deed::Deed;
@@ -91,7 +90,7 @@ impl<C: Copier> Ledger<C> {
     }
 
     /// Notes that a writer is given an order.
-    #[tactic(auto, using(crate::proofs::Right::right_more, crate::proofs::Right::copied_same))]
+    #[tactic(auto, using(crate::proofs::RightDeeds::right_more, crate::proofs::RightDeeds::copied_same))]
     pub fn say(&mut self, writer: u32, standing: Standing) -> Result<(), Undone>
         ensures said { OnOk result (self.new ≡ record self.old {
           deeds = self.old.deeds
@@ -118,7 +117,7 @@ impl<C: Copier> Ledger<C> {
     }
 
     /// Notes the answer of a writer.
-    #[tactic(auto, using(crate::proofs::Right::right_more, crate::proofs::Right::copied_same))]
+    #[tactic(auto, using(crate::proofs::RightDeeds::right_more, crate::proofs::RightDeeds::copied_same))]
     pub fn hear(&mut self, writer: u32, order: Order, answer: Answer) -> Result<(), Undone>
         ensures heard { OnOk result (self.new ≡ record self.old {
           deeds = self.old.deeds
@@ -144,7 +143,7 @@ impl<C: Copier> Ledger<C> {
     }
 
     /// Notes that a writer is told of the abort.
-    #[tactic(auto, using(crate::proofs::Right::right_more, crate::proofs::Right::copied_same))]
+    #[tactic(auto, using(crate::proofs::RightDeeds::right_more, crate::proofs::RightDeeds::copied_same))]
     pub fn tell_abort(&mut self, writer: u32) -> Result<(), OutOfMemory>
         ensures told { OnOk result (self.new ≡ record self.old {
           deeds = self.old.deeds
@@ -161,7 +160,7 @@ impl<C: Copier> Ledger<C> {
     }
 
     /// Brings the volumes near their files.
-    #[tactic(auto, using(crate::proofs::Right::right_more, crate::proofs::Right::copied_more))]
+    #[tactic(auto, using(crate::proofs::RightDeeds::right_more, crate::proofs::RightDeeds::copied_more))]
     pub fn bring_near(&mut self) -> Result<(), Undone>
         ensures near { OnOk result (self.new ≡ record self.old { deeds = self.old.deeds ++ Deed.Near ∷ [] }) }
         ensures same { OnErr result (self.new ≡ self.old) }
@@ -179,7 +178,7 @@ impl<C: Copier> Ledger<C> {
     }
 
     /// Reads the next part of a volume's file. Whether it was the last is answered.
-    #[tactic(auto, using(crate::proofs::Right::right_more, crate::proofs::Right::copied_more))]
+    #[tactic(auto, using(crate::proofs::RightDeeds::right_more, crate::proofs::RightDeeds::copied_more))]
     pub fn read(&mut self, volume: u32) -> Result<bool, Undone>
         ensures read { IfOk result (λ is_last. self.new ≡ record self.old {
           deeds = self.old.deeds
@@ -211,7 +210,7 @@ impl<C: Copier> Ledger<C> {
     }
 
     /// Keeps what was read as a set, and answers its number.
-    #[tactic(auto, using(crate::proofs::Right::right_more, crate::proofs::Right::copied_more))]
+    #[tactic(auto, using(crate::proofs::RightDeeds::right_more, crate::proofs::RightDeeds::copied_more))]
     pub fn keep(&mut self) -> Result<u32, Undone>
         ensures kept { IfOk result (λ set. self.new ≡ record self.old { deeds = self.old.deeds ++ Deed.Kept set ∷ [] }) }
         ensures not_now { IsErrOf result Undone.NotNow
@@ -234,7 +233,7 @@ impl<C: Copier> Ledger<C> {
     }
 
     /// Tells the writer of this place of the abort, if it was not told.
-    #[tactic(auto, using(crate::proofs::Told::told_next, crate::proofs::Told::told_end, crate::proofs::Told::told_on))]
+    #[tactic(auto, using(crate::proofs::RightDeeds::told_next, crate::proofs::RightDeeds::told_end, crate::proofs::RightDeeds::told_on))]
     fn tell_at(&mut self, place: usize) -> Result<(), OutOfMemory>
         ensures writers { self.new.writers ≡ self.old.writers }
         ensures told { OnOk result (all_told (take place self.old.writers) self.old.deeds ≡ true

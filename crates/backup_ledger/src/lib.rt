@@ -2,7 +2,7 @@
 //!
 //! Contracts see a `Ledger` as the writers that take part, the volumes of the set, and the list of deeds: what was said to whom and heard of
 //! whom, and what was read and kept. The ledger itself calls the copier, and does so only if its deeds allow it (`specs/Deeds.antt`). So the
-//! contracts promise of each list of deeds that a set was kept only if it is of one moment (`specs/OneMoment.antt`), whatever its caller asks.
+//! contracts promise of each list of deeds that a set was kept only if it is of one moment (`specs/Deeds.antt`), whatever its caller asks.
 #![tactic(auto)]
 
 mod copier;

@@ -3,7 +3,7 @@ use Rattle.std.proofs.Common.{◌≡◌, ℕ, zero, suc, ◌+◌, ◌-◌, ◌*�
 use Rattle.std.proofs.Math.Seq.{take-append_seam}
 use Rattle.std.proofs.lemmas.List.{length-replicate, append-nil, take-take}
 use Rattle.std.specs.List.{repeat}
-use Rattle.block_data.specs.Runs.{run_of, repeated, zeros}
+use Rattle.block_data.specs.BlockBytes.{run_of, repeated, zeros}
 use Rattle.block_data.specs.declared.block_buf.TheConstants.{BLOCK}
 
 -- a run has its count as its length

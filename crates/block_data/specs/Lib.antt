@@ -1,6 +1,1 @@
-pub mod Digest
-pub mod Hashed
-pub mod Lending
-pub mod PayloadBytes
-pub mod Runs
-pub mod Sectors
+pub mod BlockBytes

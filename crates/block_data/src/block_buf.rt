@@ -1,7 +1,6 @@
 ghost use Rattle.std.specs.Prelude.{◌≡◌, length, vec_len, IfOk};
 ghost use Rattle.std.specs.Borrow.{sem};
-ghost use Rattle.block_data.specs.Lending.{LendsBytes};
-ghost use Rattle.block_data.specs.Runs.{run_of, zeros};
+ghost use Rattle.block_data.specs.BlockBytes.{LendsBytes, run_of, zeros};
 
 use std::alloc::Global;
 use std::marker::Model;
@@ -29,7 +28,7 @@ impl Model for BlockBuf {
 }
 
 /// So many bytes that are zero.
-#[tactic(auto, unfolding(crate::specs::Runs::run_of))]
+#[tactic(auto, unfolding(crate::specs::BlockBytes::run_of))]
 fn zero_bytes(alloc: Global, count: usize) -> Result<Vec<u8>, OutOfMemory>
     ensures { IfOk result (λ bytes. bytes.items ≡ run_of count 0) }
 {

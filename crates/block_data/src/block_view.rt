@@ -1,5 +1,5 @@
 ghost use Rattle.std.specs.Prelude.{◌≡◌, ◌<◌, ◌+◌, ◌≤◌, length, take, drop};
-ghost use Rattle.block_data.specs.Sectors.{sector};
+ghost use Rattle.block_data.specs.BlockBytes.{sector};
 
 use crate::block_buf::BLOCK;
 use std::marker::Model;
@@ -55,7 +55,7 @@ impl<'a> BlockView<'a> {
     }
 
     /// Lends sector `i`, counted from 0.
-    #[tactic(auto, unfolding(crate::specs::Sectors::sector))]
+    #[tactic(auto, unfolding(crate::specs::BlockBytes::sector))]
     pub fn sector(&self, i: u32) -> &'a [u8]
         requires { i < SECTORS }
         ensures sector { result.now ≡ sector self.now i }

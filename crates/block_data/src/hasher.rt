@@ -1,5 +1,5 @@
 ghost use Rattle.std.specs.Prelude.{◌≡◌, ℕ, List, [], ◌++◌, length};
-ghost use Rattle.block_data.specs.Digest.{sha256};
+ghost use Rattle.block_data.specs.BlockBytes.{sha256};
 
 use sha2::{Digest, Sha256};
 
@@ -17,9 +17,9 @@ pub struct Hasher {
     state: Sha256,
 }
 
-#[tactic(auto, unfolding(crate::specs::Hashed::HasTaken))]
+#[tactic(auto, unfolding(crate::specs::BlockBytes::HasTaken))]
 impl Hasher {
-    ghost use Rattle.block_data.specs.Hashed.{HasTaken};
+    ghost use Rattle.block_data.specs.BlockBytes.{HasTaken};
 
     /// A hasher that has taken no bytes.
     pub fn new() -> Hasher
@@ -48,7 +48,7 @@ impl Hasher {
 
 impl Default for Hasher {
     ghost use Rattle.std.specs.Prelude.{[]};
-    ghost use Rattle.block_data.specs.Hashed.{HasTaken};
+    ghost use Rattle.block_data.specs.BlockBytes.{HasTaken};
 
     ghost is_default = { λ hasher. HasTaken hasher [] };
 

@@ -1,5 +1,5 @@
 ghost use Rattle.std.specs.Prelude.{◌≡◌, ◌+◌, ◌*◌, ◌/◌, ◌%◌, ◌<◌, ◌≤◌, ◌++◌, length, take, drop};
-ghost use Rattle.block_data.specs.Runs.{run_of, repeated};
+ghost use Rattle.block_data.specs.BlockBytes.{run_of, repeated};
 
 use crate::block_buf::{BLOCK, BlockBuf};
 
@@ -15,7 +15,7 @@ pub enum Payload {
 }
 
 /// Writes one byte into every place.
-#[tactic(auto, unfolding(crate::specs::Runs::run_of))]
+#[tactic(auto, unfolding(crate::specs::BlockBytes::run_of))]
 fn fill(out: &mut [u8], byte: u8)
     ensures { out.new ≡ run_of (length out.old) byte }
 {
@@ -49,7 +49,7 @@ fn repeat(out: &mut [u8], word: [u8; 8])
 }
 
 impl Payload {
-    ghost use Rattle.block_data.specs.PayloadBytes.{payload_bytes};
+    ghost use Rattle.block_data.specs.BlockBytes.{payload_bytes};
 
     /// Writes the block's bytes into `out`.
     pub fn fill_into(&self, out: &mut [u8])

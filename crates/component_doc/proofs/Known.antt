@@ -1,20 +1,61 @@
--- The metadata of one writer, by its number.
-use Rattle.std.proofs.Common.{◌≡◌, ◌∙◌, ℕ, zero, suc, ◌+◌, ◌<◌, ◌≤◌, ◌==◌, ◌↔◌, append-nil, is_some, if◌then◌else◌, List, [], ◌∷◌, ◌++◌, length}
-use Rattle.std.proofs.Common.{drop, map, Bool, true, false, ◌&&◌, Option, None, Some, option_map, slice_get, arith, refl, sym, ap, subst}
-use Rattle.std.specs.Prelude.{Result, IfOk}
-use Rattle.std.proofs.lemmas.Bool.{eqb-true, false≢true}
-use Rattle.std.proofs.lemmas.List.{drop_all, length-map}
-use Rattle.std.proofs.lemmas.Option.{none-some, same_Some}
+-- The metadata of one writer, as their format allows: the values that are written of choices, and the writers that take part.
+use Rattle.std.proofs.Common.{◌≡◌, ◌≤◌, ℕ, zero, suc, List, [], ◌∷◌, length, map, true, Option, None, Some, slice_get, IsUtf8, arith, refl, subst, ◌∙◌, ◌+◌}
+use Rattle.std.proofs.Common.{◌<◌, ◌==◌, ◌↔◌, append-nil, is_some, if◌then◌else◌, ◌++◌, drop, Bool, false, ◌&&◌, option_map, sym, ap, get_or, ◌||◌, nat_lt}
+use Rattle.std.proofs.Common.{filter, cond}
+use Rattle.std.proofs.lemmas.Bool.{and_from, eqb-true, false≢true}
+use Rattle.std.proofs.lemmas.Bool.Decides.{nat_tests}
 use Rattle.std.proofs.lemmas.Grind.{common_steps}
+use Rattle.std.proofs.lemmas.List.{drop_all, length-map, drop_more}
+use Rattle.std.proofs.lemmas.List.FromFn.{filter_of_map_range_with_len_more}
+use Rattle.std.proofs.lemmas.Map.Views.{any-filter_same}
+use Rattle.std.proofs.lemmas.Option.{none-some, same_Some}
+use Rattle.std.proofs.lemmas.Str.{IsUtf8-append}
+use Rattle.std.specs.List.{list_all, list_any, range_with_len}
+use Rattle.std.specs.Prelude.{Result, IfOk}
+use Rattle.serde_json.specs.View.{view, items_view}
+use Rattle.serde_json.specs.declared.value.Value.{Value}
+use Rattle.writer_meta.specs.Document.{IsAllowed, is_allowed_part}
+use Rattle.writer_meta.specs.Metadata.{Part, Meta, part_of, joined, full_name, backslash, meta_of}
+use Rattle.writer_meta.specs.declared.component.Component.{Component}
 use Rattle.writer_meta.specs.declared.metadata.Metadata.{Metadata}
-use Rattle.writer_meta.specs.Metadata.{Meta, meta_of}
-use Rattle.writer_meta.specs.Allowed.{IsAllowed}
-use Rattle.writer_meta.proofs.Laws.{and_left, and_right}
+use Rattle.writer_meta.proofs.Laws.{and_left, and_right, IsUtf8-printable, IsUtf8-part_name, IsUtf8-part_path, with_items, with_items-one_more, with_items-none}
+use Rattle.component_doc.specs.Document.{component_data, choice_data, choices_data}
+use Rattle.component_doc.specs.Over.{has_few, all_have_few, metas_of, AreAllowed, IsKnownAllowed, IsOver, IsSelectedOver, meta_at}
+use Rattle.component_doc.specs.Selection.{Selected, choices_of, chosen, chosen_from, known_from, is_taker, takers}
 use Rattle.component_doc.specs.declared.choice.Choice.{Choice}
 use Rattle.component_doc.proofs.Order.{both, drop-further}
-use Rattle.component_doc.specs.Held.{metas_of, has_few, all_have_few}
-use Rattle.component_doc.specs.Over.{AreAllowed, IsKnownAllowed, IsOver, IsSelectedOver, meta_at}
-use Rattle.component_doc.specs.Selection.{Selected, choices_of, chosen, chosen_from, known_from}
+
+-- ## Metadata that are as their format allows.
+
+few-of : (m : Meta) → length m.parts ≤ 1024 → has_few (Some m) ≡ true
+few-of m few = grind (arith, nat_tests)
+
+-- each has few components
+pub few-from_allowed : (ms : List (Option Meta)) → AreAllowed ms → all_have_few ms ≡ true
+few-from_allowed [] all = refl
+few-from_allowed (None ∷ ms) all = few-from_allowed ms all
+few-from_allowed (Some m ∷ ms) all = and_from (has_few (Some m)) _ (few-of m all.0.few) (few-from_allowed ms all.1)
+
+-- the components of one writer
+pub part-at : (components : List Component) (i : ℕ) (c : Component) → slice_get components i ≡ Some c → list_all is_allowed_part (map part_of components) ≡ true → is_allowed_part (part_of c) ≡ true
+part-at [] i c at all = absurd (none-some c at)
+part-at (x ∷ components) zero c at all = subst (λ (y : Component). is_allowed_part (part_of y) ≡ true) (same_Some x c at) (and_left _ _ all)
+part-at (x ∷ components) (suc i) c at all = part-at components i c at (and_right (is_allowed_part (part_of x)) _ all)
+
+-- ## full names
+
+IsUtf8-joined : (path name : List ℕ) → IsUtf8 path → IsUtf8 name → IsUtf8 (joined path name)
+IsUtf8-joined [] name p n = n
+IsUtf8-joined (c ∷ path) name p n = IsUtf8-append (c ∷ path) (backslash ∷ name) p (IsUtf8-append (backslash ∷ []) name (IsUtf8-printable (backslash ∷ []) refl) n)
+
+pub IsUtf8-full_name : (part : Part) → is_allowed_part part ≡ true → IsUtf8 (full_name part)
+IsUtf8-full_name part allowed = IsUtf8-joined part.path part.name (IsUtf8-part_path part.path part.name allowed) (IsUtf8-part_name part.path part.name allowed)
+
+-- one writer that is known
+pub few_known : (m : Meta) → IsAllowed m → has_few (Some m) ≡ true
+few_known m allowed = few-of m allowed.few
+
+-- ## The metadata of one writer, by its number.
 
 pub map-at : {A B : Type 0} (f : A → B) (xs : List A) (i : ℕ) (x : A) → slice_get xs i ≡ Some x → slice_get (map f xs) i ≡ Some (f x)
 map-at f [] i x e = absurd (none-some x e)
@@ -115,3 +156,63 @@ chosen-on s t ms w cs new o same l is at so_far = grind (arith, common_steps, ch
 pub over-both : (ms : List (Option Metadata)) (n : ℕ) (s : Selected) (b r : Bool) → r ≡ ((n == length ms) && b) → (b ≡ true) ↔ IsSelectedOver (metas_of ms) s
     → (r ≡ true) ↔ IsOver (metas_of ms) (record { writers = n; selected = s })
 over-both ms n s b r e h = grind (arith, length-map, eqb-true, and_left, and_right, both)
+
+-- ## The values that are written of choices.
+
+-- a choice whose writer is known and has the component
+pub choice-found : (o : Option Meta) (c : Choice) (m : Metadata) (component : Component) → Some (meta_of m) ≡ o → slice_get m.components c.component ≡ Some component
+    → Some (component_data m.class c.explicit (full_name (part_of component)) c.writer) ≡ choice_data c o
+choice-found o c m component known found = grind (arith, map-at)
+
+-- ## in a row
+
+pub value-more : (ms : List (Option Meta)) (choices : List Choice) (values : List Value) (i : ℕ) (d : Choice) (v : Value) → i < length choices
+    → Some (view v) ≡ choice_data (get_or choices i d) (meta_at (slice_get ms (get_or choices i d).writer)) → with_items values (choices_data ms (drop i choices)) ≡ choices_data ms choices
+    → with_items (values ++ v ∷ []) (choices_data ms (drop (i + 1) choices)) ≡ choices_data ms choices
+value-more ms choices values i d v within seen so_far = grind (arith, drop_more, with_items-one_more)
+
+pub value-none : (ms : List (Option Meta)) (choices : List Choice) (values : List Value) (i : ℕ) (d : Choice) → i < length choices
+    → None ≡ choice_data (get_or choices i d) (meta_at (slice_get ms (get_or choices i d).writer)) → with_items values (choices_data ms (drop i choices)) ≡ choices_data ms choices
+    → with_items values (choices_data ms (drop (i + 1) choices)) ≡ choices_data ms choices
+value-none ms choices values i d within none so_far = grind (arith, drop_more)
+
+pub value-all : (ms : List (Option Meta)) (choices : List Choice) (values : List Value) (i : ℕ) → length choices ≤ i
+    → with_items values (choices_data ms (drop i choices)) ≡ choices_data ms choices → items_view values ≡ choices_data ms choices
+value-all ms choices values i past so_far = grind (arith, with_items-none, drop_all)
+
+-- ## The writers that take part, one writer more.
+
+map-same : (xs : List ℕ) → map (λ x. x) xs ≡ xs
+map-same xs = grind (arith, common_steps)
+
+more : (s : Selected) (n : ℕ) → filter (is_taker s) (range_with_len 0 (n + 1)) ≡ filter (is_taker s) (range_with_len 0 n) ++ cond (is_taker s n) (n ∷ []) []
+more s n =
+    ap (filter (is_taker s)) (sym (map-same (range_with_len 0 (n + 1))))
+    ∙ filter_of_map_range_with_len_more (is_taker s) (λ x. x) 0 n n (omega arith)
+    ∙ ap (λ r. filter (is_taker s) r ++ cond (is_taker s n) (n ∷ []) []) (map-same (range_with_len 0 n))
+
+pub taken : (s : Selected) (n : ℕ) (writers : List ℕ) → is_taker s n ≡ true → writers ≡ filter (is_taker s) (range_with_len 0 n)
+    → writers ++ n ∷ [] ≡ filter (is_taker s) (range_with_len 0 (n + 1))
+taken s n writers takes so_far = ap (λ r. r ++ n ∷ []) so_far ∙ sym (more s n ∙ ap (λ b. filter (is_taker s) (range_with_len 0 n) ++ cond b (n ∷ []) []) takes)
+
+pub passed : (s : Selected) (n : ℕ) (writers : List ℕ) → is_taker s n ≡ false → writers ≡ filter (is_taker s) (range_with_len 0 n)
+    → writers ≡ filter (is_taker s) (range_with_len 0 (n + 1))
+passed s n writers takes so_far = grind (arith, common_steps, more)
+
+-- ## one writer
+
+range-step : (a n w : ℕ) (b : Bool) → (a == w) ≡ b → a ≤ w → (a + 1 ≤ w → list_any (λ x. x == w) (range_with_len (a + 1) n) ≡ nat_lt w (a + 1 + n))
+    → (b || list_any (λ x. x == w) (range_with_len (a + 1) n)) ≡ nat_lt w (a + suc n)
+range-step a n w b e l more = grind arith
+
+-- a number is in a range below whose end it is
+any-range : (a n w : ℕ) → a ≤ w → list_any (λ x. x == w) (range_with_len a n) ≡ nat_lt w (a + n)
+any-range a zero w l = grind (arith, nat_tests)
+any-range a (suc n) w l = range-step a n w (a == w) refl l (any-range (a + 1) n w)
+
+swapped : (b c : Bool) → (b && c) ≡ (c && b)
+swapped b c = grind arith
+
+-- a writer takes part that is one of them, and is taken
+pub takes-is : (n : ℕ) (s : Selected) (w : ℕ) → (nat_lt w n && is_taker s w) ≡ list_any (λ x. x == w) (takers n s)
+takes-is n s w = grind (arith, common_steps, nat_tests, any-filter_same, eqb-true, any-range 0 n w (omega arith), swapped (is_taker s w) (nat_lt w n))

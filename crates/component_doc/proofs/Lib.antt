@@ -1,14 +1,5 @@
-pub mod Added
-pub mod Allowed
-pub mod Alone
-pub mod Known
-pub mod Named
-pub mod Numbers
 pub mod Order
-pub mod Places
+pub mod Known
 pub mod ReadBack
-pub mod Same
-pub mod Takers
+pub mod Named
 pub mod Told
-pub mod Values
-pub mod Behind

@@ -10,7 +10,7 @@ use Rattle.std.proofs.lemmas.Bool.{or_parts}
 use Rattle.std.proofs.lemmas.Grind.{common_steps}
 use Rattle.serde_json.specs.Data.{Items, item}
 use Rattle.vss_names.specs.declared.context.Context.{Context}
-use Rattle.vss_names.proofs.ContextRows.{context_of_number-number_of}
+use Rattle.vss_names.proofs.LookUps.{context_of_number-number_of}
 use Rattle.writer_meta.specs.Metadata.{Part, Meta, full_name}
 use Rattle.writer_meta.specs.Document.{double_after}
 use Rattle.writer_meta.proofs.Laws.{and_right}
@@ -20,8 +20,8 @@ use Rattle.component_doc.specs.Selection.{is_chosen, choice_if, choices_from, ch
 use Rattle.component_doc.specs.Over.{AreAllowed, names_selectable, is_ascending, IsSelectedOver}
 use Rattle.component_doc.specs.Document.{component_data, choices_data, document_of, document}
 use Rattle.component_doc.specs.Reading.{context_in, explicit_in, writer_in, path_in, pairs_named, named_by, named_by_all, components_in, selected_in}
-use Rattle.component_doc.proofs.Places.{AllPassed, has-none, put-last, passed-on, passed-with, passed-writer, AllAhead, all-ahead, ahead-next, IsFront}
-use Rattle.component_doc.proofs.Places.{front, absent-over, unknown-over, writer-over, all-over}
+use Rattle.component_doc.proofs.Order.{AllPassed, has-none, put-last, passed-on, passed-with, passed-writer, AllAhead, all-ahead, ahead-next, IsFront, front}
+use Rattle.component_doc.proofs.Order.{absent-over, unknown-over, writer-over, all-over}
 
 -- ## components by their full names
 

@@ -5,13 +5,11 @@ use Rattle.vss_names.specs.declared.context.Context.{Context}
 use Rattle.vss_names.specs.Context.{number_of}
 use Rattle.serde_json.specs.Data.{Data, boolean, number, string, array, object, unsigned, Items, no_items, item, Members, no_members, member}
 use Rattle.serde_json.specs.Written.{compact_text}
-use Rattle.writer_meta.specs.Metadata.{Meta, full_name}
+use Rattle.writer_meta.specs.Metadata.{Meta, full_name, class_text}
 use Rattle.writer_meta.specs.Document.{value_of_text}
-use Rattle.writer_meta.specs.Written.{class_text}
 use Rattle.component_doc.specs.declared.choice.Choice.{Choice}
 use Rattle.component_doc.specs.Selection.{Selected, chosen}
-use Rattle.component_doc.specs.Held.{Held, is_named}
-use Rattle.component_doc.specs.Over.{IsOver, meta_at}
+use Rattle.component_doc.specs.Over.{Held, is_named, IsOver, meta_at}
 
 -- the object of a component
 unfoldable pub component_data : ℕ → Bool → List ℕ → ℕ → Data

@@ -1,12 +1,21 @@
--- What a JSON value names as a component document does, whether or not it is one: the context, and the components that
--- are explicit, each named in turn. (This project's own.)
-use Rattle.std.specs.Prelude.{ℕ, Bool, true, false, List, [], codes, Option, Some, None, option_map, option_and_then}
+-- What a JSON value names as a component document does, and what a path has behind a component's name. (This project's own.)
+use Rattle.std.specs.Prelude.{ℕ, ◌≡◌, ◌≢◌, ◌++◌, List, Option, MatchOption, Bool, true, false, [], codes, Some, None, option_map, option_and_then}
 use Rattle.serde_json.specs.Data.{Data, Items, no_items, item}
 use Rattle.serde_json.specs.Find.{get, as_array, as_bool, as_number, as_str, as_u64}
-use Rattle.vss_names.specs.declared.context.Context.{Context}
+use denote.Ref.{Bor}
 use Rattle.vss_names.specs.Context.{context_of_number}
+use Rattle.vss_names.specs.declared.context.Context.{Context}
 use Rattle.writer_meta.specs.Metadata.{Meta}
 use Rattle.component_doc.specs.Selection.{Pair, Selected, Named, all_of, Naming, IsNotFound, IsNotSelectable, IsNamedAlready, Names, naming}
+
+-- ## What a text has behind a beginning. (This project's own.)
+
+-- the rest of the text behind these bytes; none where the text does not begin with them
+abbrev pub IsBehind : List ℕ → List ℕ → Option (Bor (List ℕ)) → Type 0
+IsBehind text start rest = MatchOption rest ((more : List ℕ) → text ≢ start ++ more) (λ x. text ≡ start ++ x.now)
+
+-- ## What a JSON value names as a component document does, whether or not it is one: the context, and the components that
+-- are explicit, each named in turn. (This project's own.)
 
 unfoldable pub context_in : Data → Option Context
 context_in d = option_and_then context_of_number (option_and_then as_u64 (option_and_then as_number (get (codes "context") d)))

@@ -1,5 +1,5 @@
 ghost use Rattle.std.specs.Prelude.{Some};
-ghost use Rattle.component_doc.specs.Messages.{message_of};
+ghost use Rattle.component_doc.specs.Refusal.{message_of};
 
 use std::error::Error;
 use std::fmt;

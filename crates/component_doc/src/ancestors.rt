@@ -2,7 +2,7 @@
 ghost use Rattle.std.specs.Prelude.{◌≡◌};
 ghost use Rattle.writer_meta.specs.Metadata as metadata;
 ghost use Rattle.writer_meta.specs.Metadata.{full_name, part_of};
-ghost use Rattle.component_doc.specs.Behind.{IsBehind};
+ghost use Rattle.component_doc.specs.Reading.{IsBehind};
 
 use writer_meta::Component;
 

@@ -1,7 +1,7 @@
 //! The choices of one writer, put behind those of the writers before it.
 ghost use Rattle.std.specs.Prelude.{◌≡◌, ◌≤◌, ◌++◌, [], map, length, option_map, OnOk, IsTrue};
 ghost use Rattle.writer_meta.specs.Metadata.{part_of, meta_of};
-ghost use Rattle.component_doc.specs.Held.{selected_of, has_few};
+ghost use Rattle.component_doc.specs.Over.{selected_of, has_few};
 ghost use Rattle.component_doc.specs.Selection.{Named, AllOf, choice_if, choices_from, choices_of};
 
 use crate::above::Above;

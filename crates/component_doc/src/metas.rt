@@ -26,8 +26,7 @@ impl<'a> Model for Metas<'a> {
 impl<'a> Metas<'a> {
     ghost use Rattle.std.specs.Prelude.{IsTrue};
     ghost use Rattle.writer_meta.specs.Metadata.{meta_of};
-    ghost use Rattle.component_doc.specs.Held.{metas_of, all_have_few};
-    ghost use Rattle.component_doc.specs.Over.{AreAllowed, IsKnownAllowed, meta_at, names_selectable};
+    ghost use Rattle.component_doc.specs.Over.{metas_of, all_have_few, AreAllowed, IsKnownAllowed, meta_at, names_selectable};
     ghost use Rattle.component_doc.specs.Selection.{found_in, found_of, known_from};
 
     /// These metadata, without taking memory.

@@ -1,8 +1,7 @@
 //! Pairs in order of writers and then of components.
 ghost use Rattle.std.specs.Prelude.{◌≡◌, ◌&&◌, ◌<◌, ◌≤◌, ◌++◌, ◌∷◌, take, drop, length, OnOk, OnErr};
 ghost use Rattle.std.specs.List.{list_all};
-ghost use Rattle.component_doc.specs.Held.{metas_of};
-ghost use Rattle.component_doc.specs.Over.{is_ascending, is_before_next, names_selectable};
+ghost use Rattle.component_doc.specs.Over.{metas_of, is_ascending, is_before_next, names_selectable};
 ghost use Rattle.component_doc.specs.Selection.{HaveSame, Named, has_pair, is_taker, with_pair};
 
 use crate::both::are_both;

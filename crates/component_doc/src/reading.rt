@@ -1,8 +1,7 @@
 //! What a JSON value names as a component document does, whether or not it is one.
 ghost use Rattle.std.specs.Prelude.{◌≡◌, ◌<◌, ◌^◌, [], Some, option_map, length, IfOk, IfErr, OnOk, IsTrue};
 ghost use Rattle.serde_json.specs.View.{view, items_view};
-ghost use Rattle.component_doc.specs.Held.{metas_of, all_have_few, pairs_of, is_named};
-ghost use Rattle.component_doc.specs.Over.{IsOver};
+ghost use Rattle.component_doc.specs.Over.{metas_of, all_have_few, pairs_of, is_named, IsOver};
 ghost use Rattle.component_doc.specs.Selection.{Named, naming};
 ghost use Rattle.component_doc.specs.Reading.{context_in, explicit_in, writer_in, path_in, pairs_named, named_by, named_by_all, components_in, selected_in};
 ghost use Rattle.component_doc.specs.Refusal.{Lacks};
@@ -16,7 +15,7 @@ use std::alloc::Global;
 use vss_names::Context;
 
 /// The context that a document says.
-#[tactic(auto, using(crate::proofs::Numbers::no_context_past), unfolding(crate::specs::Reading::context_in))]
+#[tactic(auto, using(crate::proofs::ReadBack::no_context_past), unfolding(crate::specs::Reading::context_in))]
 pub(crate) fn context_of(document: &Value) -> Option<Context>
     ensures { result ≡ context_in (view document.now) }
 {

@@ -3,7 +3,7 @@ ghost use Rattle.std.specs.List.{list_any};
 ghost use Rattle.std.specs.Str.{bytes_eq};
 ghost use Rattle.serde_json.specs.View.{view};
 ghost use Rattle.writer_meta.specs.Document.{value_of_text};
-ghost use Rattle.component_doc.specs.Held.{Held, metas_of, selected_of};
+ghost use Rattle.component_doc.specs.Over.{Held, metas_of, selected_of};
 ghost use Rattle.component_doc.specs.Refusal.{TellsOfText, IsNoValue};
 
 use crate::add_fault::AddFault;
@@ -37,8 +37,7 @@ impl Model for Selection {
 }
 
 impl Selection {
-    ghost use Rattle.component_doc.specs.Held.{all_have_few, pairs_of, is_named};
-    ghost use Rattle.component_doc.specs.Over.{AreAllowed, IsOver};
+    ghost use Rattle.component_doc.specs.Over.{all_have_few, pairs_of, is_named, AreAllowed, IsOver};
     ghost use Rattle.component_doc.specs.Document.{document_text, IsDocumentOf};
     ghost use Rattle.component_doc.specs.Selection.{Named, Names, naming, all_of, takers, chosen};
     ghost use Rattle.component_doc.specs.Refusal.{Tells};

@@ -1,6 +1,5 @@
 ghost use Rattle.std.specs.Prelude.{◌≡◌, ◌↔◌, ◌<◌, ◌^◌, length, IfOk, IsTrue};
-ghost use Rattle.component_doc.specs.Held.{metas_of, selected_of, is_named};
-ghost use Rattle.component_doc.specs.Over.{IsSelectedOver};
+ghost use Rattle.component_doc.specs.Over.{metas_of, selected_of, is_named, IsSelectedOver};
 ghost use Rattle.component_doc.specs.Selection.{is_taker};
 
 use crate::metas::Metas;

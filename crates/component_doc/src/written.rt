@@ -1,11 +1,9 @@
 //! The JSON values that a component document is written of.
 ghost use Rattle.std.specs.Prelude.{◌≡◌, ◌≤◌, length, map, option_map, slice_get, IfOk, IsTrue, IsUtf8};
 ghost use Rattle.serde_json.specs.View.{view, items_view};
-ghost use Rattle.writer_meta.specs.Metadata.{part_of, meta_of, full_name};
-ghost use Rattle.writer_meta.specs.Allowed.{is_allowed_part};
-ghost use Rattle.writer_meta.specs.Written.{class_text as class_text_of};
-ghost use Rattle.component_doc.specs.Held.{metas_of};
-ghost use Rattle.component_doc.specs.Over.{AreAllowed, meta_at};
+ghost use Rattle.writer_meta.specs.Metadata.{part_of, meta_of, full_name, class_text as class_text_of};
+ghost use Rattle.writer_meta.specs.Document.{is_allowed_part};
+ghost use Rattle.component_doc.specs.Over.{metas_of, AreAllowed, meta_at};
 ghost use Rattle.component_doc.specs.Document as document;
 
 use crate::choice::Choice;

@@ -11,7 +11,7 @@ use Rattle.vss_names.specs.declared.set_outcome.SetOutcome.{SetOutcome}
 use Rattle.vss_names.specs.declared.set_outcome.SetOutcome.TheVariants.{Running}
 use Rattle.writer_state.specs.declared.said.Said.{Said}
 use Rattle.writer_state.specs.declared.writer_row.WriterRow.{WriterRow}
-use Rattle.writer_state.specs.WriterRow.{row_ended}
+use Rattle.writer_state.specs.WriterState.{row_ended}
 use Rattle.writer_calls.specs.declared.mailbox.Mailbox.{Mailbox}
 use Rattle.writer_calls.specs.declared.order_counts.OrderCounts.{OrderCounts}
 use Rattle.writer_calls.specs.declared.standing.Standing.{Standing}

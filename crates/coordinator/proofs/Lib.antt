@@ -1,13 +1,7 @@
-pub mod Asking
 pub mod Begun
 pub mod Calls
 pub mod Fitting
 pub mod Following
 pub mod GroupsAfter
-pub mod KeptLimits
-pub mod Members
-pub mod Names
-pub mod OpenOrders
 pub mod Registering
-pub mod RowChanges
-pub mod Telling
+pub mod OpenOrders

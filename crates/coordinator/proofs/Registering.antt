@@ -1,21 +1,127 @@
--- Writers that are registered, and disabled.
-use Rattle.std.proofs.Common.{◌≡◌, ℕ, zero, suc, ◌+◌, ◌<◌, ◌≤◌, List, [], ◌∷◌, ◌++◌, length, drop, Option, Some, refl, Bool, true, false, ap, sym, ◌∙◌, arith}
-use Rattle.std.specs.Prelude.{◌==◌, ◌&&◌, ◌||◌}
-use Rattle.std.specs.List.{list_any}
+-- Writers that are registered and disabled, their names in order, and those that pass a test as members.
+use Rattle.std.proofs.Common.{◌≡◌, ◌≢◌, ℕ, suc, ◌+◌, ◌<◌, ◌≤◌, List, [], ◌∷◌, ◌++◌, length, refl, Bool, true, false, ap, sym, ◌∙◌, arith, map, Vec, Global}
+use Rattle.std.proofs.Common.{Some, None, cond, zero, drop, Option}
+use Rattle.std.proofs.lemmas.Bool.{and_right}
 use Rattle.std.proofs.lemmas.Bool.Decides.{nat_tests}
 use Rattle.std.proofs.lemmas.Grind.{common_steps}
+use Rattle.std.proofs.lemmas.Iterator.Adapters.{position_from-zero}
+use Rattle.std.proofs.lemmas.List.{map-append}
+use Rattle.std.specs.List.{position_from, list_any}
+use Rattle.std.specs.Map.{keys_of}
+use Rattle.std.specs.Prelude.{◌==◌, ◌&&◌, ◌||◌, position}
+use Rattle.std.specs.Str.{bytes_eq}
+use Rattle.indexmap.specs.IndexMap.{insert_entry}
 use Rattle.vss_names.specs.declared.level.Level.{Level}
+use Rattle.writer_state.specs.WriterState.{first_row}
 use Rattle.writer_state.specs.declared.writer_row.WriterRow.{WriterRow}
-use Rattle.writer_state.specs.WriterRow.{first_row}
 use Rattle.set_agenda.specs.Agenda.{is_among}
-use Rattle.set_agenda.specs.Course.{Course}
+use Rattle.set_agenda.specs.Course.{is_member, member_if, members_from, row_if, rows_where, Course}
 use Rattle.set_agenda.specs.WriterSet.{writers}
 use Rattle.set_agenda.proofs.GroupsLeft.{any-append}
 use Rattle.set_agenda.proofs.WriterSets.{among-writers, or-false, writers-agree}
+use Rattle.coordinator.specs.Coordinator.{Registered, place_of, registered, any_class, are_equal, class_at, is_disabled, named, registered_in}
+use Rattle.coordinator.specs.KeptCourse.{changed, Follows, StandsFor}
 use Rattle.coordinator.specs.declared.kept_course.KeptCourse.{KeptCourse}
-use Rattle.coordinator.specs.KeptCourse.{Follows, StandsFor}
-use Rattle.coordinator.specs.Coordinator.{Registered, any_class, are_equal, class_at, is_disabled, named, registered_in}
-use Rattle.coordinator.proofs.Members.{member-above, members-more}
+use Rattle.coordinator.specs.declared.row_change.RowChange.{RowChange}
+
+-- ## The writers that pass a test, as members.
+
+-- ## who is a member
+
+member-step : (t : ℕ → Bool) (i : ℕ) (r : WriterRow) (rs : List WriterRow) (w : ℕ) → is_member (members_from t i (r ∷ rs)) w ≡ ((t i && (i == w)) || is_member (members_from t (i + 1) rs) w)
+member-step t i r rs w = grind arith
+
+same_from : (a w : ℕ) → (a == w) ≡ true → a ≡ w
+same_from a w e = grind (arith, nat_tests)
+
+other_from : (a w : ℕ) → (a == w) ≡ false → a ≢ w
+other_from a w e = grind (arith, nat_tests)
+
+pub member-below : (t : ℕ → Bool) (i : ℕ) (rs : List WriterRow) (w : ℕ) → w < i → is_member (members_from t i rs) w ≡ false
+member-below t i [] w h = refl
+member-below t i (r ∷ rs) w h = let ih = member-below t (i + 1) rs w (omega arith) in grind (arith, common_steps, member-step, and_right)
+
+here-step : (t : ℕ → Bool) (i w : ℕ) (d c : Bool) → (i == w) ≡ c → ((i == w) ≡ true → d ≡ false) → ((i == w) ≡ false → d ≡ t w) → ((t i && c) || d) ≡ t w
+here-step t i w d c e f g = grind arith
+
+-- a writer is a member where it passes
+pub member-here : (t : ℕ → Bool) (i : ℕ) (rs : List WriterRow) (w : ℕ) → i ≤ w → w < i + length rs → is_member (members_from t i rs) w ≡ t w
+member-here t i [] w h l = absurd (omega arith)
+member-here t i (r ∷ rs) w h l =
+    member-step t i r rs w
+    ∙ here-step t i w (is_member (members_from t (i + 1) rs) w) (i == w) refl
+    (λ e. member-below t (i + 1) rs w (let s : i ≡ w = same_from i w e in omega (arith, s)))
+    (λ e. member-here t (i + 1) rs w (let s : i ≢ w = other_from i w e in omega (arith, s)) (omega arith))
+
+-- ## what members depend on
+
+member_if-level : (b : Bool) (i : ℕ) (q r : WriterRow) → q.level ≡ r.level → member_if b i q ≡ member_if b i r
+member_if-level b i q r e = grind arith
+
+row_if-level : (b : Bool) (f : WriterRow → WriterRow) (r : WriterRow) → (f r).level ≡ r.level → (row_if b f r).level ≡ r.level
+row_if-level b f r e = grind arith
+
+-- no change is one of the level
+pub changed-level : (h : RowChange) (r : WriterRow) → (changed h r).level ≡ r.level
+changed-level h r = grind arith
+
+pub members-where : (h : RowChange) (t u : ℕ → Bool) (i : ℕ) (rs : List WriterRow) → members_from t i (rows_where (changed h) u i rs) ≡ members_from t i rs
+members-where h t u i [] = refl
+members-where h t u i (r ∷ rs) = let ih = members-where h t u (i + 1) rs in grind (arith, common_steps, member_if-level, row_if-level, changed-level)
+
+pub members-map : (h : RowChange) (t : ℕ → Bool) (i : ℕ) (rs : List WriterRow) → members_from t i (map (changed h) rs) ≡ members_from t i rs
+members-map h t i [] = refl
+members-map h t i (r ∷ rs) = let ih = members-map h t (i + 1) rs in grind (arith, common_steps, member_if-level, changed-level)
+
+pub members-agree : (t u : ℕ → Bool) (i : ℕ) (rs : List WriterRow) → ((w : ℕ) → i ≤ w → w < i + length rs → t w ≡ u w) → members_from t i rs ≡ members_from u i rs
+members-agree t u i [] h = refl
+members-agree t u i (r ∷ rs) h = let ih = members-agree t u (i + 1) rs (λ w m l. h w (omega arith) (omega arith)) in grind (arith, common_steps)
+
+-- no writer from the rows' end on is a member
+pub member-above : (t : ℕ → Bool) (i : ℕ) (rs : List WriterRow) (w : ℕ) → i + length rs ≤ w → is_member (members_from t i rs) w ≡ false
+member-above t i [] w h = refl
+member-above t i (r ∷ rs) w h = let ih = member-above t (i + 1) rs w (omega arith) in grind (arith, common_steps, member-step, and_right)
+
+member_if-out : (b : Bool) (i : ℕ) (r : WriterRow) → b ≡ false → member_if b i r ≡ []
+member_if-out b i r e = grind arith
+
+-- a writer more that does not pass
+pub members-more : (t : ℕ → Bool) (i : ℕ) (rs : List WriterRow) (r : WriterRow) → t (i + length rs) ≡ false → members_from t i (rs ++ r ∷ []) ≡ members_from t i rs
+members-more t i [] r e = let z : i + 0 ≡ i = omega arith in ap (λ ms. ms ++ []) (member_if-out (t i) i r (ap t (sym z) ∙ e))
+members-more t i (x ∷ xs) r e = let z : (i + 1) + length xs ≡ i + suc (length xs) = omega arith in ap (λ ms. member_if (t i) i x ++ ms) (members-more t (i + 1) xs r (ap t z ∙ e))
+
+-- ## Names in the order of their registration.
+
+abbrev Key : Type 0
+Key = Vec ℕ Global
+
+abbrev is_key : List ℕ → Key → Bool
+is_key name k = bytes_eq name k.items
+
+abbrev is_name : List ℕ → Registered → Bool
+is_name name r = bytes_eq name r.name
+
+place-from : (name : List ℕ) (i : ℕ) (es : List (Key × ℕ)) → position_from (is_key name) i (keys_of es) ≡ position_from (is_name name) i (map registered es)
+place-from name i [] = refl
+place-from name i (e ∷ es) = ap (cond (bytes_eq name e.0.items) (Some i)) (place-from name (i + 1) es)
+
+pub place-is : (name : List ℕ) (es : List (Key × ℕ)) → position (is_key name) (keys_of es) ≡ place_of name (map registered es)
+place-is name es = position_from-zero (is_key name) (keys_of es) ∙ place-from name 0 es ∙ sym (position_from-zero (is_name name) (map registered es))
+
+insert-at : (eq : Key → Key → Bool) (k : Key) (v i : ℕ) (e : Key × ℕ) (es : List (Key × ℕ)) (b : Bool) → eq k e.0 ≡ b → cond b (Some i) (position_from (is_name k.items) (i + 1) (map registered es)) ≡ None
+    → (position_from (is_name k.items) (i + 1) (map registered es) ≡ None → insert_entry eq es k v ≡ es ++ (k, v) ∷ []) → insert_entry eq (e ∷ es) k v ≡ e ∷ es ++ (k, v) ∷ []
+insert-at eq k v i e es b h n f = grind arith
+
+insert-from : (eq : Key → Key → Bool) (k : Key) (v i : ℕ) (es : List (Key × ℕ)) → ((x : Key) → eq k x ≡ bytes_eq k.items x.items) → position_from (is_name k.items) i (map registered es) ≡ None → insert_entry eq es k v ≡ es ++ (k, v) ∷ []
+insert-from eq k v i [] same n = refl
+insert-from eq k v i (e ∷ es) same n = insert-at eq k v i e es (eq k e.0) refl (ap (λ b. cond b (Some i) (position_from (is_name k.items) (i + 1) (map registered es))) (same e.0) ∙ n) (insert-from eq k v (i + 1) es same)
+
+-- a new name goes last
+pub insert-new : (eq : Key → Key → Bool) (k : Key) (v : ℕ) (name : List ℕ) (es : List (Key × ℕ)) (ws : List Registered) → ((x : Key) → eq k x ≡ bytes_eq k.items x.items) → k.items ≡ name → map registered es ≡ ws → place_of name ws ≡ None
+    → map registered (insert_entry eq es k v) ≡ ws ++ record { name = name; class = v } ∷ []
+insert-new eq k v name es ws same e m n = grind (arith, position_from-zero, insert-from, map-append)
+
+-- ## Writers that are registered, and disabled.
 
 -- ## one writer more
 

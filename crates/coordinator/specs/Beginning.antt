@@ -1,14 +1,14 @@
 -- An agenda begins. What becomes of the course is the course's own function, by the kind of the agenda; the writers that
 -- are asked follow from what is kept of the course. (This project's own.)
 use Rattle.std.specs.Prelude.{ℕ, ◌&&◌, Bool, not, nat_lt, List, [], filter, length, map}
-use Rattle.writer_state.specs.WriterRow.{row_gathered}
+use Rattle.writer_state.specs.WriterState.{row_gathered}
 use Rattle.set_agenda.specs.declared.kind.Kind.{Kind}
 use Rattle.set_agenda.specs.declared.kind.Kind.TheVariants.{Gather, Prepare, Snapshot, Complete}
 use Rattle.set_agenda.specs.declared.member.Member.{Member}
 use Rattle.set_agenda.specs.Agenda.{is_among}
 use Rattle.set_agenda.specs.Course.{Course, completing, gathered, has_row_failed, prepared, snapshot_begun}
 use Rattle.set_agenda.specs.WriterSet.{writers}
-use Rattle.component_doc.specs.Held.{Held}
+use Rattle.component_doc.specs.Over.{Held}
 use Rattle.component_doc.specs.Selection.{takers}
 use Rattle.coordinator.specs.declared.kept_course.KeptCourse.{KeptCourse}
 use Rattle.coordinator.specs.Coordinator.{Registered, any_class, class_at, is_disabled}

@@ -1,20 +1,21 @@
 -- What contracts see of a coordinator: the names and classes of the registered writers, and what is kept of the course
 -- of the session. The words here are those in which the conditions of its calls are said. (This project's own.)
-use Rattle.std.specs.Prelude.{ℕ, ◌≡◌, ◌<◌, ◌-◌, ◌^◌, ◌==◌, ◌+◌, ◌++◌, ◌&&◌, ◌||◌, Bool, true, false, List, [], ◌∷◌, length, position, slice_get, Option, Some, None, option_map, is_some, Result, Ok, Err, Vec}
-use Rattle.std.specs.List.{list_any}
 use Rattle.std.specs.Global.{Global}
+use Rattle.std.specs.List.{list_any}
+use Rattle.std.specs.Prelude.{ℕ, ◌≡◌, ◌<◌, ◌-◌, ◌^◌, ◌==◌, ◌+◌, ◌++◌, ◌&&◌, ◌||◌, Bool, true, false, List, [], ◌∷◌, length, position, slice_get, Option, Some}
+use Rattle.std.specs.Prelude.{None, option_map, is_some, Result, Ok, Err, Vec, codes}
 use Rattle.std.specs.Str.{bytes_eq}
 use Rattle.vss_names.specs.declared.level.Level.{Level}
 use Rattle.vss_names.specs.declared.set_outcome.SetOutcome.{SetOutcome}
 use Rattle.vss_names.specs.declared.set_outcome.SetOutcome.TheVariants.{Running, Complete, Failed}
 use Rattle.vss_names.specs.declared.vss_result.VssResult.{VssResult}
-use Rattle.writer_state.specs.WriterRow.{first_row}
+use Rattle.writer_state.specs.WriterState.{first_row}
 use Rattle.set_agenda.specs.Agenda.{is_working}
 use Rattle.set_agenda.specs.Course.{Course, failed}
+use Rattle.coordinator.specs.KeptCourse.{IsBy, StandsFor, left_now}
 use Rattle.coordinator.specs.declared.kept_course.KeptCourse.{KeptCourse}
 use Rattle.coordinator.specs.declared.register_fault.RegisterFault.{RegisterFault}
 use Rattle.coordinator.specs.declared.register_fault.RegisterFault.TheVariants.{Double, OutOfMemory}
-use Rattle.coordinator.specs.KeptCourse.{IsBy, StandsFor, left_now}
 
 -- a registered writer
 pub record Registered : Type 0 where
@@ -107,3 +108,9 @@ abbrev pub double_of : Result ℕ RegisterFault → Option ℕ
 double_of (Ok w) = None
 double_of (Err (Double at)) = Some at
 double_of (Err OutOfMemory) = None
+
+-- ## What is said of a writer that is not registered. (This project's own.)
+
+abbrev pub message_of : RegisterFault → List ℕ
+message_of (Double at) = codes "a writer of this name is registered"
+message_of OutOfMemory = codes "out of memory"

@@ -3,7 +3,7 @@
 -- (This project's own; the course itself is that of set_agenda's Course.)
 use Rattle.std.specs.Prelude.{ℕ, ◌≡◌, ◌≤◌, min, Bool, true, false, List, [], fold, length, slice_get, Option, Some, None, if◌then◌else◌}
 use Rattle.writer_state.specs.declared.writer_row.WriterRow.{WriterRow}
-use Rattle.writer_state.specs.WriterRow.{row_aborted, row_after, row_ended, row_gathered}
+use Rattle.writer_state.specs.WriterState.{row_aborted, row_after, row_ended, row_gathered}
 use Rattle.set_agenda.specs.declared.kind.Kind.{Kind}
 use Rattle.set_agenda.specs.Agenda.{Agenda, Open, is_among, is_done, left, open_order}
 use Rattle.set_agenda.specs.declared.limit.Limit.{Limit}
@@ -17,8 +17,7 @@ use Rattle.coordinator.specs.declared.row_change.RowChange.{RowChange}
 use Rattle.coordinator.specs.declared.row_change.RowChange.TheVariants.{Told, Aborted, Gathered, Ended}
 use Rattle.coordinator.specs.declared.kept_course.KeptCourse.{KeptCourse}
 use Rattle.coordinator.specs.declared.running_agenda.RunningAgenda.{RunningAgenda}
-use Rattle.coordinator.specs.RunningAgenda.{Fits}
-use Rattle.coordinator.specs.KeptLimits.{NoneAfter}
+use Rattle.coordinator.specs.RunningAgenda.{Fits, NoneAfter}
 use Rattle.coordinator.specs.OpenOrders.{AreFit, AreReady}
 
 -- ## the agenda that runs

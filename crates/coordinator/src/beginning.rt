@@ -1,6 +1,6 @@
 ghost use Rattle.std.specs.Prelude.{◌≡◌, ◌&&◌, ◌++◌, ◌==◌, ◌||◌, ◌<◌, ◌≤◌, ℕ, Bool, [], All, if◌then◌else◌, length, map, true, IfOk, OnErr, OnOk};
 ghost use Rattle.set_agenda.specs.Agenda.{is_among};
-ghost use Rattle.set_agenda.specs.Begin.{are_distinct, by_writer};
+ghost use Rattle.set_agenda.specs.Advance.{are_distinct, by_writer};
 ghost use Rattle.set_agenda.specs.Course.{has_row_failed, member_if, members_from};
 ghost use Rattle.set_agenda.specs.WriterSet.{writers};
 ghost use Rattle.writer_state.specs.declared.writer_row.WriterRow.{WriterRow};

@@ -3,7 +3,7 @@ ghost use Rattle.writer_calls.specs.Mailbox.{answer_to};
 ghost use Rattle.writer_calls.specs.Script.{said_of};
 ghost use Rattle.set_agenda.specs.Agenda.{is_frozen, is_held, left, next_step, next_volume, open_group, order_now};
 ghost use Rattle.set_agenda.specs.Course.{Course, answered, course_start, idle_ticks, lost_writers, released, stepped, timed};
-ghost use Rattle.set_agenda.specs.Begin.{are_distinct};
+ghost use Rattle.set_agenda.specs.Advance.{are_distinct};
 ghost use Rattle.tick_limits.specs.Time.{answer_limit};
 ghost use Rattle.coordinator.specs.Beginning.{begun_as};
 ghost use Rattle.coordinator.specs.Coordinator.{IsOnTime, KeepsWriters, MayPost, Stands, double_of, is_disabled, named, place_of, failed_if_running, registered_in, runs, works, writer_count};

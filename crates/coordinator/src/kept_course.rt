@@ -6,8 +6,7 @@ ghost use Rattle.set_agenda.specs.Agenda.{Agenda, is_among, is_asked, is_asking,
 ghost use Rattle.set_agenda.specs.Course.{Course, answered_to, course_start, decided, error_of, failed, fails_set, freeze_limit, idle_ticks, is_decisive, is_member, limits_now, lost, lost_decided, members_from, outcome_after, posted, released, settled, stepped_as, told, worked};
 ghost use Rattle.set_agenda.specs.Limits.{spent_of};
 ghost use Rattle.set_agenda.specs.WriterSet.{writers};
-ghost use Rattle.coordinator.specs.RunningAgenda.{Fits};
-ghost use Rattle.coordinator.specs.KeptLimits.{NoneAfter};
+ghost use Rattle.coordinator.specs.RunningAgenda.{Fits, NoneAfter};
 ghost use Rattle.coordinator.specs.Beginning.{ready_for};
 ghost use Rattle.tick_limits.specs.Time.{answer_limit, default_freeze};
 ghost use Rattle.coordinator.specs.Coordinator.{failed_if_running, is_running};

@@ -1,5 +1,5 @@
 ghost use Rattle.std.specs.Prelude.{Some};
-ghost use Rattle.coordinator.specs.Messages.{message_of};
+ghost use Rattle.coordinator.specs.Coordinator.{message_of};
 
 use std::error::Error;
 use std::fmt;

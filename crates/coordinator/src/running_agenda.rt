@@ -2,13 +2,12 @@ ghost use Rattle.std.specs.Prelude.{◌≡◌, ◌↔◌, ◌&&◌, ◌+◌, ◌
 ghost use Rattle.std.specs.Option.{ForSome};
 ghost use Rattle.writer_state.specs.declared.said.Said.TheVariants.{Lost, Ok as SaidOk};
 ghost use Rattle.writer_state.specs.WriterState.{is_ok};
-ghost use Rattle.set_agenda.specs.Begin.{are_distinct, by_writer, unspoken};
+ghost use Rattle.set_agenda.specs.Advance.{are_distinct, by_writer, unspoken};
 ghost use Rattle.set_agenda.specs.WriterSet.{writers};
 ghost use Rattle.set_agenda.specs.Agenda.{all_say, groups_left, is_asked, is_asking, is_freeze, is_frozen, is_thaw, is_working, next_member, open_place, waits_now, Agenda as AgendaWithLog};
 ghost use Rattle.set_agenda.specs.Limits.{running_limits, spent_of, ticks_to_spend};
 ghost use Rattle.tick_limits.specs.Time.{answer_limit};
-ghost use Rattle.coordinator.specs.KeptLimits.{NoneAfter, running_since, sooner, spent_since, until_since};
-ghost use Rattle.coordinator.specs.RunningAgenda.{Fits, entered, freeze_opened_after, held_after, opened_after, taken_if};
+ghost use Rattle.coordinator.specs.RunningAgenda.{NoneAfter, running_since, sooner, spent_since, until_since, Fits, entered, freeze_opened_after, held_after, opened_after, taken_if};
 
 use crate::codes::{
     answer_runs, freeze_runs, hold_runs, is_freeze, is_hold, is_prepare_snapshot, is_same_place,

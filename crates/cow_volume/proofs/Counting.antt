@@ -10,13 +10,11 @@ use Rattle.std.proofs.lemmas.Option.{get_or_from_slice_get, slice_get_within}
 use Rattle.std.proofs.lemmas.Bool.{lt-ltb, ltb-true, and_parts, and_from, not_from_false}
 use Rattle.write_history.specs.History.{Write, Image, History, sets_of, AreInTime}
 use Rattle.write_history.specs.Slots.{Copy, named, used, used_by, group_used, copy_of, copies_of, copies_from, copies}
-use Rattle.diff_area.specs.Records.{free, is_free, used_in, AreRecords}
+use Rattle.diff_area.specs.Format.{free, is_free, used_in, AreRecords}
 use Rattle.diff_area.specs.declared.table_record.Record.{Record}
-use Rattle.cow_volume.specs.GroupValue.{GroupValue, placed}
-use Rattle.cow_volume.specs.StandsFor.{is_named, record_of, told_in, IsVolume, StandsFor}
-use Rattle.cow_volume.specs.Changes.{is_of}
+use Rattle.cow_volume.specs.StandsFor.{GroupValue, placed, is_named, record_of, told_in, IsVolume, StandsFor}
+use Rattle.cow_volume.specs.Changes.{is_of, is_on}
 use Rattle.cow_volume.specs.Calls.{is_among}
-use Rattle.cow_volume.specs.Counts.{is_on}
 use Rattle.cow_volume.proofs.Members.{Has, AreApart, permuted, has_at, place_of, has_left, has_right, has_either, has-map, from-map, apart-append, apart-map, has-filter, from-filter, apart-filter}
 use Rattle.cow_volume.proofs.Group.{slice_get_inside, same_number, number_is}
 use Rattle.cow_volume.proofs.Named.{Stands, key, numbers_are, named_of, used_by_it, of_named, of_set, above_zero, has-named, from-named, apart-named, is-copy, has-copy, length-copies, apart-copies}

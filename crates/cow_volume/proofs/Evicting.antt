@@ -9,18 +9,16 @@ use Rattle.std.proofs.lemmas.List.Elements.{All-head, All-tail}
 use Rattle.std.proofs.lemmas.Option.{slice_get_within, same_Some}
 use Rattle.write_history.specs.History.{Write, Image, History, content, point_in, sets_of, after_set, names, AreLater, AreInTime}
 use Rattle.write_history.specs.Slots.{Placed, writes_since, needs_slot_in, group_used, lacks_slot, gone_up_to, evicted_up_to}
-use Rattle.diff_area.specs.Records.{free, used_in, AreRecords, IsNarrow}
-use Rattle.diff_area.specs.Places.{place_of_slot}
+use Rattle.diff_area.specs.Format.{used_in, AreRecords, IsNarrow, place_of_slot}
 use Rattle.diff_area.specs.declared.table_record.Record.{Record}
-use Rattle.cow_volume.specs.GroupValue.{GroupValue, placed}
-use Rattle.cow_volume.specs.StandsFor.{StandsFor, is_named, record_of, told_in, IsVolume}
+use Rattle.cow_volume.specs.StandsFor.{GroupValue, placed, StandsFor, is_named, record_of, told_in, IsVolume}
 use Rattle.cow_volume.specs.Changes.{gone_row, gone_to}
 use Rattle.cow_volume.specs.Calls.{is_among, IsEvicted}
 use Rattle.cow_volume.specs.Room.{gone_group}
 use Rattle.cow_volume.proofs.Group.{slice_get_inside, slice_get_map, set_above, same_number, other_number, number_is}
 use Rattle.cow_volume.proofs.Merging.{AreImages-filter, sets_of-filter, point_before, was_row, true_not_false}
 use Rattle.cow_volume.proofs.Writing.{no_image}
-use Rattle.diff_area.proofs.Valid.{and_left}
+use Rattle.diff_area.proofs.GoodRecords.{and_left}
 
 -- ## one volume
 
@@ -63,10 +61,6 @@ past_named ws m s b images e = grind (arith, ltb-true, true_not_false, none_name
 gone_was : (m v s b : ℕ) (r : Record) → 0 < s → gone_row m r ≡ record_of v s b → (r ≡ record_of v s b) × (m < s)
 gone_was m v s b r above e = grind arith
 
--- and one that is past m stays
-gone_stays : (m v s b slot : ℕ) (records : List Record) → m < s → slice_get records slot ≡ Some (record_of v s b) → slice_get (gone_to m records) slot ≡ Some (record_of v s b)
-gone_stays m v s b slot records l at = grind (arith, slice_get_map, lt-leb)
-
 -- The images of a volume up to m go, and the records of those sets.
 pub gone_volume : (told slots : Option (List (List ℕ))) (records : List Record) (v n : ℕ) (sets : List ℕ) (h : History) (m : ℕ) → IsVolume told slots records v n sets h
     → IsVolume told slots (gone_to m records) v n (filter (λ s. nat_lt m s) sets) (gone m h)
@@ -81,7 +75,7 @@ gone_volume told slots records v n sets h m volume = record {
   recorded = λ s b l named.
       let past = past_named h.writes m s b h.images named in
       let there = volume.recorded s b l (sym (after_named h.writes m s b (length h.writes) h.images volume.images.in_time past) ∙ named) in
-      (there.0, gone_stays m v s b there.0 records past there.1);
+      (there.0, (grind (arith, slice_get_map, lt-leb, there.1)));
   copied = λ slot s b p at point tells.
       let before = point_before (λ k. nat_lt m k) s p h.images point in
       let was = was_row (gone_row m) records slot (record_of v s b) at in
@@ -262,10 +256,6 @@ room_made told g hs v b m stands lacked has =
 pub is_gone : {D : Type 0} → (m : ℕ) (g : GroupValue D) → AreGone m g (gone_group m g)
 is_gone m g = record { devices = refl; device = refl; volumes = refl; records = refl; images = refl }
 
--- a record that is left, other than a free one, is as it was
-left_row : (m : ℕ) (r q : Record) → gone_row m r ≡ q → q ≢ free → r ≡ q
-left_row m r q e used = grind arith
-
 narrow_row : (m : ℕ) (r q : Record) → gone_row m r ≡ q → IsNarrow r → IsNarrow q
 narrow_row m r q e narrow = grind arith
 
@@ -274,11 +264,11 @@ pub gone_records : (volumes : List ℕ) (records : List Record) (m : ℕ) → Ar
 gone_records volumes records m are = record {
   few = let long = length-map records (gone_row m) in let few = are.few in omega arith;
   narrow = λ slot r at. let was = was_row (gone_row m) records slot r at in narrow_row m was.0 r was.2 (are.narrow slot was.0 was.1);
-  each = λ slot r at used. let was = was_row (gone_row m) records slot r at in are.each slot r (was.1 ∙ ap Some (left_row m was.0 r was.2 used)) used;
+  each = λ slot r at used. let was = was_row (gone_row m) records slot r at in are.each slot r (was.1 ∙ ap Some (grind (arith, was.2))) used;
   once = λ slot other r at there used.
       let was = was_row (gone_row m) records slot r at in
       let was_there = was_row (gone_row m) records other r there in
-      are.once slot other r (was.1 ∙ ap Some (left_row m was.0 r was.2 used)) (was_there.1 ∙ ap Some (left_row m was_there.0 r was_there.2 used)) used;
+      are.once slot other r (was.1 ∙ ap Some (grind (arith, was.2))) (was_there.1 ∙ ap Some (grind (arith, was_there.2))) used;
 }
 
 -- the definition's test by the records that are left

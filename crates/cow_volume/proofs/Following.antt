@@ -1,30 +1,113 @@
--- The records of a volume follow its map copy by copy.
-use Rattle.std.proofs.Common.{ℕ, zero, suc, ◌≡◌, ◌<◌, ◌-◌, Bool, true, false, ◌&&◌, List, get_or, [], ◌∷◌, length, map, Option, Some, None, slice_get, slice_set, refl, sym, ap, ◌∙◌, subst, arith}
+-- The maps of a group, where that of one volume changes, and the records of a volume that follow its map copy by copy.
+use Rattle.std.proofs.Common.{ℕ, ◌≡◌, ◌<◌, ◌≤◌, ◌+◌, ◌-◌, ◌++◌, ◌∷◌, [], List, length, take, All, Some, get_or, slice_get, slice_set, inl, inr, sym, ap, ◌∙◌}
+use Rattle.std.proofs.Common.{subst, arith, zero, suc, Bool, true, false, ◌&&◌, map, Option, None, refl}
+use Rattle.std.proofs.Math.Seq.{take-suc}
+use Rattle.std.proofs.lemmas.Bool.{cases_eq, cases_lt, false≢true}
+use Rattle.std.proofs.lemmas.List.{get_or_default, get_or-set_same, get_or-take, length-set, length-take-le, set-get_or, set-set, length-map}
+use Rattle.std.proofs.lemmas.Option.{slice_get-get_or, none-some, same_Some, slice_get_within}
+use Rattle.std.specs.List.{AllPairs}
 use Rattle.std.specs.Prelude.{◌==◌, nat_lt}
-use Rattle.std.proofs.lemmas.Bool.{false≢true}
-use Rattle.std.proofs.lemmas.List.{length-map, set-set}
-use Rattle.std.proofs.lemmas.Option.{none-some, same_Some, slice_get_within}
-use Rattle.diff_area.specs.AreaValue.{AreaValue}
-use Rattle.diff_area.specs.Records.{free}
-use Rattle.diff_area.specs.declared.table_record.Record.{Record}
-use Rattle.diff_map.specs.Copies.{AllTaken, copied_at, copy_of, HasCopy}
+use Rattle.diff_map.specs.Copies.{AllTaken, copied_at, copy_of, HasCopy, MapValue, IsMap, AreImages}
 use Rattle.diff_map.specs.Counts.{used_for}
-use Rattle.diff_map.specs.Groups.{IsHandedDown, IsOnlyAt, map_at, with_row}
-use Rattle.diff_map.specs.MapValue.{MapValue, IsMap}
+use Rattle.diff_map.specs.Groups.{IsOnlyAt, map_at, new_map, with_images, IsHandedDown, with_row}
+use Rattle.diff_map.specs.Rules.{next_older, merged}
 use Rattle.diff_map.specs.declared.copied.Copied.{Copied}
 use Rattle.diff_map.specs.declared.entry.Entry.{Entry}
 use Rattle.diff_map.specs.declared.going.Going.{Going}
-use Rattle.diff_map.specs.Rules.{merged}
 use Rattle.diff_map.specs.declared.handed_down.HandedDown.{HandedDown}
 use Rattle.diff_map.proofs.Counting.{used_out}
+use Rattle.diff_map.proofs.Images.{next_older_is, next_older_reaches}
 use Rattle.diff_map.proofs.Renewing.{FreesMapUpTo, IsRenewingMap, handing_was, handing_frees, handing_moves, handing_smaller, has_now}
+use Rattle.diff_area.specs.AreaValue.{AreaValue}
+use Rattle.diff_area.specs.Format.{free}
+use Rattle.diff_area.specs.declared.table_record.Record.{Record}
 use Rattle.cow_volume.specs.CopiesAfter.{with_records}
+use Rattle.cow_volume.specs.Changes.{record_for, followed_row, followed}
 use Rattle.cow_volume.specs.StandsFor.{record_of}
-use Rattle.cow_volume.specs.Tied.{copied_for}
-use Rattle.cow_volume.specs.Followed.{record_for, followed_row, followed}
-use Rattle.cow_volume.proofs.GroupMaps.{only-more}
+use Rattle.cow_volume.specs.Parts.{copied_for}
+use Rattle.cow_volume.proofs.Renewed.{follows-of, follows-other, length-followed, followed_at}
 use Rattle.cow_volume.proofs.Rows.{record_of_row, both_from, of_volume, get_inside}
-use Rattle.cow_volume.proofs.FollowedRows.{follows-of, follows-other, length-followed, followed_at}
+
+-- ## The maps of a group, where that of one volume changes.
+
+pub get_map : (maps : List MapValue) (v : ℕ) → v < length maps → slice_get maps v ≡ Some (map_at maps v)
+get_map maps v inside = slice_get-get_or maps v (new_map 0 0) inside
+
+-- the maps are as they were but for that of the volume, which is this now
+pub map_now : (maps new : List MapValue) (v : ℕ) (n : MapValue) → v < length maps → new ≡ slice_set maps v n → map_at new v ≡ n
+map_now maps new v n inside is = ap (λ (ms : List MapValue). map_at ms v) is ∙ get_or-set_same maps v n (new_map 0 0) inside
+
+pub valid_now : (maps new : List MapValue) (v : ℕ) (n : MapValue) → v < length maps → new ≡ slice_set maps v n → IsMap (map_at new v) → IsMap n
+valid_now maps new v n inside is valid = subst IsMap (map_now maps new v n inside is) valid
+
+pub only-none : (v : ℕ) (maps : List MapValue) → IsOnlyAt v maps maps
+only-none v maps = sym (set-get_or maps v (new_map 0 0))
+
+-- one change after another
+pub set_after : (v : ℕ) (maps mid new : List MapValue) (n : MapValue) → IsOnlyAt v maps mid → new ≡ slice_set mid v n → new ≡ slice_set maps v n
+set_after v maps mid new n only is = is ∙ ap (λ (ms : List MapValue). slice_set ms v n) only ∙ set-set maps v (map_at mid v) n
+
+pub only-more : (v : ℕ) (maps mid new : List MapValue) → IsOnlyAt v maps mid → IsOnlyAt v mid new → IsOnlyAt v maps new
+only-more v maps mid new only more = set_after v maps mid new (map_at new v) only more
+
+-- ## the images of a volume are added one after another
+
+module _ (first maps : List MapValue) (v k : ℕ) (sets : List ℕ) (inside : v < length first) (rise : AreImages sets) (more : k < length sets)
+    (is : maps ≡ slice_set first v (with_images (take k sets) (map_at first v))) where
+  adding_now : map_at maps v ≡ with_images (take k sets) (map_at first v)
+  adding_now = map_now first maps v (with_images (take k sets) (map_at first v)) inside is
+
+  adding_is : (map_at maps v).images ≡ take k sets
+  adding_is = ap (λ (m : MapValue). m.images) adding_now
+
+  pub adding_inside : v < length maps
+  adding_inside = let l = ap length is ∙ length-set first v (with_images (take k sets) (map_at first v)) in omega arith
+
+  pub adding_room : length (map_at maps v).images < 512
+  adding_room = let l = ap length adding_is ∙ length-take-le k sets (omega arith) in let few = rise.few in omega arith
+
+  pub adding_newest : All (λ image. image < get_or sets k 0) (map_at maps v).images
+  adding_newest = subst (λ (xs : List ℕ). All (λ image. image < get_or sets k 0) xs) (sym adding_is) (λ j d low.
+      let l = length-take-le k sets (omega arith) in
+      let same = get_or-take k sets j d (omega arith) in
+      let default = get_or_default sets j d 0 (omega arith) in
+      let less = rise.ascend j k 0 (omega arith) more in
+      omega arith)
+
+  pub adding_more : (new : List MapValue) → new ≡ slice_set maps v (with_images ((map_at maps v).images ++ get_or sets k 0 ∷ []) (map_at maps v))
+      → new ≡ slice_set first v (with_images (take (k + 1) sets) (map_at first v))
+  adding_more new new_is = grind (arith, adding_now, set-set, take-suc)
+
+-- ## the place of an image
+
+-- the next older image than one of them is the one before it
+pub next_older_at : (images : List ℕ) (at set : ℕ) → AllPairs (λ older newer. older < newer) images → at < length images → 0 < at → get_or images at 0 ≡ set
+    → next_older images set ≡ Some (get_or images (at - 1) 0)
+next_older_at images at set rise inside above is =
+    let before : get_or images (at - 1) 0 < get_or images at 0 = rise (at - 1) at 0 (omega arith) inside in
+    let there = get_or_default images (at - 1) (get_or images (at - 1) 0) 0 (omega arith) in
+    let reached = next_older_reaches images set (get_or images (at - 1) 0) rise (at - 1, omega arith, there) (omega arith) in
+    let low = reached.2 in
+    let found = next_older_is images set reached.0 reached.1 in
+    let under = found.0 in
+    let k = found.1.0 in
+    let within = found.1.1 in
+    let at_k : get_or images k reached.0 ≡ reached.0 = found.1.2 in
+    let default = get_or_default images k 0 reached.0 within in
+    let high : reached.0 ≤ get_or images (at - 1) 0 = elim (cases_lt k at) [
+      | inl earlier ↦ elim (cases_eq k (at - 1)) [
+        | inl same ↦ let e = ap (λ j. get_or images j 0) same in omega arith
+        | inr other ↦ let less = rise k (at - 1) 0 (omega arith) (omega arith) in omega arith
+      ]
+      | inr later ↦ elim (cases_eq k at) [
+        | inl same ↦ let e = ap (λ j. get_or images j 0) same in absurd (omega arith)
+        | inr other ↦ let more = rise at k 0 (omega arith) within in absurd (omega arith)
+      ]
+    ] in
+    let same : reached.0 ≡ get_or images (at - 1) 0 = omega arith in
+    reached.1 ∙ ap (λ (n : ℕ). Some n) same
+
+-- ## The records of a volume follow its map copy by copy.
 
 -- the area's records follow the map
 abbrev pub Follows : {D : Type 0} → ℕ → AreaValue D → AreaValue D → MapValue → Type 0
@@ -42,12 +125,9 @@ pub record HandsDown {D : Type 0} (v older set : ℕ) (first area : AreaValue D)
   pub renews : IsRenewingMap (merged (map_at before v).copies (Some older) set) (map_at before v) (map_at maps v) old new
   pub follows : Follows v first area (map_at maps v)
 
-self_row : (v : ℕ) (r : Record) → followed_row v (copied_for v r) r ≡ r
-self_row v r = grind arith
-
 followed_self : (v : ℕ) (records : List Record) → followed v (map (copied_for v) records) records ≡ records
 followed_self v [] = refl
-followed_self v (r ∷ rs) = ap (λ x. x ∷ followed v (map (copied_for v) rs) rs) (self_row v r) ∙ ap (λ xs. r ∷ xs) (followed_self v rs)
+followed_self v (r ∷ rs) = ap (λ x. x ∷ followed v (map (copied_for v) rs) rs) (grind arith) ∙ ap (λ xs. r ∷ xs) (followed_self v rs)
 
 -- they do at first
 pub Follows-first : {D : Type 0} (v : ℕ) (area : AreaValue D) (m : MapValue) → m.copies ≡ map (copied_for v) area.records → Follows v area area m

@@ -8,10 +8,9 @@ use Rattle.std.proofs.lemmas.List.Elements.{All-head, All-tail}
 use Rattle.std.proofs.lemmas.Bool.Decides.{nat_tests}
 use Rattle.write_history.specs.History.{Write, Image, History, content, point_in, names}
 use Rattle.write_history.specs.Slots.{writes_since}
-use Rattle.diff_area.specs.Places.{place_of_slot}
+use Rattle.diff_area.specs.Format.{place_of_slot}
 use Rattle.diff_area.specs.declared.table_record.Record.{Record}
-use Rattle.cow_volume.specs.GroupValue.{GroupValue}
-use Rattle.cow_volume.specs.StandsFor.{told_in, IsVolume, StandsFor, is_named, record_of}
+use Rattle.cow_volume.specs.StandsFor.{GroupValue, told_in, IsVolume, StandsFor, is_named, record_of}
 use Rattle.cow_volume.specs.Calls.{history_in, history_at, changed_at}
 
 -- ## one place of a list

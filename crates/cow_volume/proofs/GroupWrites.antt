@@ -1,36 +1,124 @@
--- The steps of a write, against the histories that the group stands for.
-use Rattle.std.proofs.Common.{ℕ, zero, suc, ◌≡◌, ◌<◌, ◌≤◌, Bool, true, false, ◌&&◌, List, [], ◌∷◌, length, map, Some, slice_get, slice_set, refl, sym, ap, ◌∙◌, subst, arith, inl, inr}
-use Rattle.std.specs.Prelude.{Result, Ok, Err, is_some, IfSome, slice_index}
-use Rattle.std.proofs.lemmas.Option.{slice_get_within}
+-- The steps of a write, against the histories that the group stands for: whether it lacks its slot, and that it copies once.
+use Rattle.std.proofs.Common.{ℕ, ◌≡◌, true, false, List, Option, arith, ◌<◌, Bool, not, [], ◌∷◌, length, slice_get, refl, sym, ap, ◌∙◌, zero, suc, ◌≤◌, ◌&&◌}
+use Rattle.std.proofs.Common.{map, Some, slice_set, subst, inl, inr}
+use Rattle.std.proofs.lemmas.Bool.{false≢true}
 use Rattle.std.proofs.lemmas.List.{length-map, length-set}
+use Rattle.std.proofs.lemmas.Option.{slice_get_within}
+use Rattle.std.specs.Prelude.{Result, Ok, Err, is_some, IfSome, slice_index}
 use Rattle.vss_names.specs.Faults.{Rose}
-use Rattle.write_history.specs.History.{History, Write}
-use Rattle.volume_device.specs.Blocks.{AreBlocks}
-use Rattle.volume_device.specs.declared.device.Device.{Ghosts}
-use Rattle.diff_area.specs.Places.{blocks_for}
-use Rattle.diff_area.specs.Records.{free, is_free}
-use Rattle.diff_area.specs.declared.table_record.Record.{Record}
-use Rattle.diff_map.specs.MapValue.{newest}
 use Rattle.slot_pool.specs.Slots.{IsLowestFree}
+use Rattle.volume_device.specs.InMemory.{AreBlocks}
+use Rattle.volume_device.specs.declared.device.Device.{Ghosts}
+use Rattle.write_history.specs.History.{History, Write}
+use Rattle.write_history.specs.Slots.{needs_slot_in, lacks_slot as lacks_slot_by, gone_up_to}
+use Rattle.diff_map.specs.Copies.{newest}
+use Rattle.diff_area.specs.Format.{blocks_for, AreRecords, free, is_free}
+use Rattle.diff_area.specs.declared.table_record.Record.{Record}
+use Rattle.cow_volume.specs.Calls.{sets_at, blocks_at, sets_in, IsEvicted, IsSameDevice, IsKept, IsUnfailed, DeviceRose, HasCauseAt, IsWritten, IsUnwritten}
+use Rattle.cow_volume.specs.Calls.{made_room, blocks_in}
+use Rattle.cow_volume.specs.Changes.{has_record, gone_to, noted}
+use Rattle.cow_volume.specs.CopiesAfter.{IsAreaPut, IsCopiedOnce, images_on, after_gone, after_note}
+use Rattle.cow_volume.specs.StandsFor.{GroupValue, placed, StandsFor, record_of}
+use Rattle.cow_volume.specs.Parts.{group_of, CopiesValue, AreOfImages}
+use Rattle.cow_volume.specs.Room.{lacks_copy, lacks_slot, IsRoomMade, gone_group, lacks_after, all_after, HasRoom}
+use Rattle.cow_volume.specs.Steps.{IsOn, IsPut, IsNotPut, IsPutOr, IsPutOn, IsCopiedIn, IsNotCopied, RoseBy, put}
 use Rattle.cow_volume.specs.declared.cause.Cause.{Cause}
 use Rattle.cow_volume.specs.declared.cause.Cause.TheVariants.{NoSuchBlock, Volume, Area}
-use Rattle.cow_volume.specs.GroupValue.{GroupValue}
-use Rattle.cow_volume.specs.StandsFor.{StandsFor, record_of}
-use Rattle.cow_volume.specs.Changes.{noted}
-use Rattle.cow_volume.specs.Calls.{IsSameDevice, IsKept, IsUnfailed, DeviceRose, HasCauseAt, IsWritten, IsUnwritten, IsEvicted, made_room, sets_at, blocks_in, blocks_at}
-use Rattle.cow_volume.specs.Room.{lacks_copy, gone_group}
-use Rattle.cow_volume.specs.Tied.{CopiesValue}
-use Rattle.cow_volume.specs.CopiesAfter.{images_on, after_note}
-use Rattle.cow_volume.specs.Steps.{IsOn, IsPut, IsNotPut, IsPutOr, IsPutOn, IsCopiedIn, IsNotCopied, RoseBy, put}
+use Rattle.cow_volume.proofs.Counting.{group_used_of}
+use Rattle.cow_volume.proofs.Evicting.{is_gone, gone_stands, gone_records, lacks_by_records, room_made, none_gone_stands}
 use Rattle.cow_volume.proofs.Group.{quiet_stands}
-use Rattle.cow_volume.proofs.Writing.{slot_room, group_written_again, group_written_first, group_overwritten}
+use Rattle.cow_volume.proofs.DeviceCalls.{same_on, kept, told_set, volume_rose, put_tells}
+use Rattle.cow_volume.proofs.Kept.{same_itself, kept_itself, map_set_told}
+use Rattle.cow_volume.proofs.MakingRoom.{gone_nothing}
+use Rattle.cow_volume.proofs.Merging.{and_left}
+use Rattle.cow_volume.proofs.Rows.{lacks_newest, has_slot, has_from_slot}
 use Rattle.cow_volume.proofs.Ties.{free_slot_is}
-use Rattle.cow_volume.proofs.Evicting.{none_gone_stands}
-use Rattle.cow_volume.proofs.RoomMade.{needs_by_records}
-use Rattle.cow_volume.specs.Parts.{group_of}
-use Rattle.cow_volume.proofs.Kept.{same_itself}
-use Rattle.cow_volume.proofs.Kept.{kept_itself, map_set_told}
-use Rattle.cow_volume.proofs.GroupSteps.{same_on, kept, told_set, volume_rose, put_tells}
+use Rattle.cow_volume.proofs.Writing.{newest_is, group_needs, group_needs_none, group_needs_not, slot_room, group_written_again, group_written_first}
+use Rattle.cow_volume.proofs.Writing.{group_overwritten}
+
+-- ## A write copies once, also where images went for it.
+
+-- what lacks a copy once images went lacked it before
+pub lacked : {D : Type 0} (c new : CopiesValue D) (v b up_to : ℕ) → AreRecords c.area.volumes c.area.records → AreOfImages c.area.records c.images → IsRoomMade c.area.records c.images v b up_to
+    → new ≡ after_gone c up_to
+    → lacks_copy new.area.records v (images_on new v) b ≡ true → lacks_copy c.area.records v (images_on c v) b ≡ true
+lacked c new v b up_to are of room gone lacks = grind (arith, gone_nothing, and_left)
+
+-- and none went where no slot was lacking
+pub needless : {D : Type 0} (c : CopiesValue D) (v b up_to : ℕ) → AreRecords c.area.volumes c.area.records → AreOfImages c.area.records c.images → IsRoomMade c.area.records c.images v b up_to
+    → lacks_slot c.area.records v (images_on c v) b ≡ false → up_to ≡ 0
+needless c v b up_to are of room has = grind (arith, gone_nothing)
+
+-- so a write that copies once after images went copies once
+pub once_with_room : {D : Type 0} (told : D → Option (List (List ℕ))) (old mid new : GroupValue D) (v b up_to : ℕ) → mid ≡ gone_group up_to old
+    → (lacks_copy mid.area.records v (sets_at mid v) b ≡ true → lacks_copy old.area.records v (sets_at old v) b ≡ true)
+    → IsCopiedOnce told mid new v b → IsCopiedOnce told old new v b
+once_with_room told old mid new v b up_to gone lacks_before once = grind (arith, length-map)
+
+-- a write that lacks no slot does
+pub once_of : {D : Type 0} (told : D → Option (List (List ℕ))) (old new : GroupValue D) (v b : ℕ) (r : Result Unit Cause) → IsAreaPut told old new v b r → IsCopiedOnce told old new v b
+once_of told old new v b r broken = grind arith
+
+-- a write that needs no copy leaves the area
+pub not_copied_area : {D : Type 0} (told : D → Option (List (List ℕ))) (old new : GroupValue D) (v b : ℕ) (r : Result Unit Cause)
+    → lacks_copy old.area.records v (sets_at old v) b ≡ false → told new.area.device ≡ told old.area.device → new.area.records ≡ old.area.records → IsAreaPut told old new v b r
+not_copied_area told old new v b r has slots records = grind arith
+
+-- ## Whether a write lacks its slot, by the records and by the histories; and so the images that go for it.
+
+-- a write needs a slot just where the newest image lacks a copy of the block
+pub needs_by_records : {D : Type 0} (told : D → Option (List (List ℕ))) (g : GroupValue D) (hs : List History) (v b : ℕ) → StandsFor told g hs → b < blocks_at g v
+    → lacks_copy g.area.records v (sets_at g v) b ≡ needs_slot_in (slice_get hs v) b
+needs_by_records told g hs v b stands within = by_sets (sets_at g v) refl where
+  by_test : (t : Bool) → 0 < length (sets_at g v) → has_record g.area.records (record_of v (newest (sets_at g v)) b) ≡ t → not t ≡ needs_slot_in (slice_get hs v) b
+  by_test true some e = let at = has_slot g.area.records (record_of v (newest (sets_at g v)) b) e in sym (group_needs_not told g hs v b at.0 stands within at.1)
+  by_test false some e = sym (group_needs told g hs v b stands within (record {
+    set = newest (sets_at g v);
+    newest_is = newest_is (sets_at g v) some;
+    unnoted = λ slot h. false≢true (sym e ∙ has_from_slot g.area.records (record_of v (newest (sets_at g v)) b) slot h);
+  }))
+
+  by_some : 0 < length (sets_at g v) → lacks_copy g.area.records v (sets_at g v) b ≡ needs_slot_in (slice_get hs v) b
+  by_some some = lacks_newest g.area.records v (sets_at g v) b some ∙ by_test (has_record g.area.records (record_of v (newest (sets_at g v)) b)) some refl
+
+  by_sets : (sets : List ℕ) → sets_at g v ≡ sets → lacks_copy g.area.records v (sets_at g v) b ≡ needs_slot_in (slice_get hs v) b
+  by_sets [] e = ap (λ (s : List ℕ). lacks_copy g.area.records v s b) e ∙ sym (group_needs_none told g hs v b stands within e)
+  by_sets (s ∷ rest) e = let long = ap length e in by_some (omega arith)
+
+lacks_lift : {D : Type 0} (told : D → Option (List (List ℕ))) (g : GroupValue D) (hs : List History) (v b k : ℕ) → StandsFor told g hs → AreRecords g.area.volumes g.area.records → b < blocks_at g v
+    → lacks_after g.area.records g.images v b k ≡ lacks_slot_by (length g.area.records) (placed g.area.volumes) v b (gone_up_to k (placed g.area.volumes) hs)
+lacks_lift told g hs v b k stands are within =
+    let now = gone_stands told g (gone_group k g) hs k (is_gone k g) stands in
+    lacks_by_records g.area.records (placed g.area.volumes) v b k hs (lacks_copy (gone_to k g.area.records) v (sets_in (slice_get (all_after k g.images) v)) b)
+    (needs_by_records told (gone_group k g) (gone_up_to k (placed g.area.volumes) hs) v b now within)
+    (group_used_of told (gone_group k g) (gone_up_to k (placed g.area.volumes) hs) now (gone_records g.area.volumes g.area.records k are))
+
+-- the number up to which room was made is the definition's
+pub room_lift : {D : Type 0} (told : D → Option (List (List ℕ))) (g : GroupValue D) (hs : List History) (v b m : ℕ) → StandsFor told g hs → AreRecords g.area.volumes g.area.records → b < blocks_at g v
+    → IsRoomMade g.area.records g.images v b m → IsEvicted g v b hs m
+room_lift told g hs v b m stands are within room =
+    room_made told g hs v b m stands
+    (λ k low. sym (lacks_lift told g hs v b k stands are within) ∙ room.needed k low)
+    (sym (lacks_lift told g hs v b m stands are within) ∙ room.enough)
+
+-- where the images went that had to, there is room
+pub room_is : {D : Type 0} (told : D → Option (List (List ℕ))) (devices : List D) (old new : CopiesValue D) (v b up_to : ℕ) → AreRecords old.area.volumes old.area.records
+    → AreOfImages old.area.records old.images
+    → b < blocks_at (group_of devices old) v → IsRoomMade old.area.records old.images v b up_to → new ≡ after_gone old up_to → HasRoom told (group_of devices old) (group_of devices new) v b up_to
+room_is told devices old new v b up_to are of within made gone =
+    let g = group_of devices old in
+    let left : group_of devices new ≡ gone_group up_to g = ap (group_of devices) gone in
+    record {
+      enough = ap (λ x. lacks_slot x.area.records v (sets_at x v) b) left ∙ made.enough;
+      needless = needless old v b up_to are of made;
+      none = λ e. ap (group_of devices) (gone ∙ ap (after_gone old) e ∙ sym (gone_nothing old are of));
+      left = left;
+      lacked = lacked old new v b up_to are of made gone;
+      evicted = λ hs stood. room_lift told g hs v b up_to stood are within made;
+      stands = λ hs stood. rw left (gone_stands told g (gone_group up_to g) hs up_to (is_gone up_to g) stood);
+    }
+
+-- ## The steps of a write, against the histories that the group stands for.
 
 -- a slot is noted for the newest image, of records and images that a copy left
 pub noted_copies : {D : Type 0} (c new last : CopiesValue D) (v b slot : ℕ) → new.area.records ≡ c.area.records → new.images ≡ c.images → last ≡ after_note new v b slot

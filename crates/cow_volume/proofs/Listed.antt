@@ -9,7 +9,7 @@ use Rattle.std.proofs.lemmas.List.{length-append, length-map, drop_more, drop_al
 use Rattle.std.proofs.lemmas.Option.{slice_get_within}
 use Rattle.write_history.specs.declared.evicted.Evicted.{Evicted}
 use Rattle.write_history.specs.Slots.{evicted_of}
-use Rattle.diff_map.specs.MapValue.{AreImages}
+use Rattle.diff_map.specs.Copies.{AreImages}
 use Rattle.cow_volume.specs.Calls.{sets_in, is_among}
 use Rattle.cow_volume.specs.Room.{holders, images_going, first_above, lesser, IsNextSet}
 use Rattle.cow_volume.proofs.MakingRoom.{lesser_of}
@@ -96,9 +96,6 @@ next_is images above up_to set next = let high = next.higher in by_number (set -
 
 -- ## the next set
 
-apart_above : (s n : ℕ) → n < s → (s == n) ≡ false
-apart_above s n l = grind (arith, nat_tests)
-
 pub apart_below : (s n : ℕ) → s < n → (s == n) ≡ false
 apart_below s n l = grind (arith, nat_tests)
 
@@ -110,7 +107,7 @@ not_among n s sets e f = ap (λ (t : Bool). t || is_among n sets) e ∙ f
 
 all_above : (n : ℕ) (sets : List ℕ) → ((i : ℕ) → i < length sets → n < get_or sets i 0) → is_among n sets ≡ false
 all_above n [] above = refl
-all_above n (s ∷ sets) above = not_among n s sets (apart_above s n (above 0 (omega arith))) (all_above n sets (λ i l. above (suc i) (omega arith)))
+all_above n (s ∷ sets) above = not_among n s sets (grind (arith, nat_tests, above 0 (omega arith))) (all_above n sets (λ i l. above (suc i) (omega arith)))
 
 -- no set between is among sets that rise
 none_between : (above n : ℕ) (sets : List ℕ) → ((i j : ℕ) → i < j → j < length sets → get_or sets i 0 < get_or sets j 0) → above < n → IfSome (first_above above sets) (λ s. n < s)
@@ -261,13 +258,10 @@ set_more s sets (n ∷ ns) =
     let rest = set_more s sets ns in
     omega (arith, all, one, others, here, rest)
 
-head_is : (s a k : ℕ) (t : Bool) → (s == a) ≡ t → hits (s ∷ []) (range_with_len a (suc k)) ≡ bit t + hits (s ∷ []) (range_with_len (a + 1) k)
-head_is s a k t e = grind arith
-
 past_it : (s a k : ℕ) → s < a → hits (s ∷ []) (range_with_len a k) ≡ 0
 past_it s a zero l = refl
 past_it s a (suc k) l =
-    let here : hits (s ∷ []) (range_with_len a (suc k)) ≡ 0 + hits (s ∷ []) (range_with_len (a + 1) k) = head_is s a k false (apart_below s a l) in
+    let here : hits (s ∷ []) (range_with_len a (suc k)) ≡ 0 + hits (s ∷ []) (range_with_len (a + 1) k) = grind (arith, apart_below s a l) in
     let rest = past_it s (a + 1) k (omega arith) in
     omega (arith, here, rest)
 
@@ -277,11 +271,11 @@ once s a (suc k) = by_test (s == a) refl (once s (a + 1) k) where
   by_test : (t : Bool) → (s == a) ≡ t → hits (s ∷ []) (range_with_len (a + 1) k) ≤ 1 → hits (s ∷ []) (range_with_len a (suc k)) ≤ 1
   by_test true e rest =
       let same : s ≡ a = grind (arith, nat_tests) in
-      let here : hits (s ∷ []) (range_with_len a (suc k)) ≡ 1 + hits (s ∷ []) (range_with_len (a + 1) k) = head_is s a k true e in
+      let here : hits (s ∷ []) (range_with_len a (suc k)) ≡ 1 + hits (s ∷ []) (range_with_len (a + 1) k) = grind arith in
       let none = past_it s (a + 1) k (omega arith) in
       omega (arith, here, none)
   by_test false e rest =
-      let here : hits (s ∷ []) (range_with_len a (suc k)) ≡ 0 + hits (s ∷ []) (range_with_len (a + 1) k) = head_is s a k false e in
+      let here : hits (s ∷ []) (range_with_len a (suc k)) ≡ 0 + hits (s ∷ []) (range_with_len (a + 1) k) = grind arith in
       omega (arith, here, rest)
 
 few_hits : (sets : List ℕ) (a k : ℕ) → hits sets (range_with_len a k) ≤ length sets

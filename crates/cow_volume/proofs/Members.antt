@@ -142,18 +142,12 @@ from-filter {X = X} p x (z ∷ xs) h = elim (has_if (p z) x z (filter p xs) h) [
   | inr m ↦ (let rest = from-filter p x xs m in (inr rest.0, rest.1))
 ]
 
-here_if : {X : Type 0} (b : Bool) (x : X) (xs : List X) → b ≡ true → Has x (if b then x ∷ xs else xs)
-here_if b x xs e = grind arith
-
-later_if : {X : Type 0} (b : Bool) (x z : X) (xs : List X) → Has x xs → Has x (if b then z ∷ xs else xs)
-later_if b x z xs h = grind arith
-
 pub has-filter : {X : Type 0} (p : X → Bool) (x : X) (xs : List X) → p x ≡ true → Has x xs → Has x (filter p xs)
 has-filter p x [] e h = absurd h
 has-filter {X = X} p x (z ∷ xs) e (inl same) =
     let P : X → Type 0 = λ y. Has y (if p z then z ∷ filter p xs else filter p xs) in
-    subst P same (here_if (p z) z (filter p xs) (ap p same ∙ e))
-has-filter p x (z ∷ xs) e (inr h) = later_if (p z) x z (filter p xs) (has-filter p x xs e h)
+    subst P same (grind (arith, (ap p same ∙ e)))
+has-filter p x (z ∷ xs) e (inr h) = grind (arith, has-filter p x xs e h)
 
 apart_if : {X : Type 0} (b : Bool) (x : X) (xs : List X) → (b ≡ true → Has x xs → ⊥) → AreApart xs → AreApart (if b then x ∷ xs else xs)
 apart_if b x xs d a = grind arith

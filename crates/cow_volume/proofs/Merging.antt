@@ -11,12 +11,10 @@ use Rattle.std.proofs.lemmas.List.{length-map, append_assoc, append_cancel_right
 use Rattle.std.proofs.lemmas.Option.{get_or_from_slice_get, slice_get_within, same_Some}
 use Rattle.write_history.specs.History.{Write, Image, History, content, point_in, sets_of, without_set, names, dropped, AreLater, AreInTime}
 use Rattle.write_history.specs.Slots.{writes_since}
-use Rattle.diff_area.specs.Records.{free, AreRecords}
-use Rattle.diff_area.specs.Places.{place_of_slot}
+use Rattle.diff_area.specs.Format.{free, AreRecords, place_of_slot}
 use Rattle.diff_area.specs.declared.table_record.Record.{Record}
 use Rattle.diff_map.specs.Rules.{next_older}
-use Rattle.cow_volume.specs.GroupValue.{GroupValue}
-use Rattle.cow_volume.specs.StandsFor.{StandsFor, AreImages, is_named, record_of, told_in, IsVolume}
+use Rattle.cow_volume.specs.StandsFor.{GroupValue, StandsFor, AreImages, is_named, record_of, told_in, IsVolume}
 use Rattle.cow_volume.specs.Changes.{is_of, is_same_record, has_record, handed_down, merged_row, merged}
 use Rattle.cow_volume.specs.Calls.{is_among, history_at, changed_at}
 use Rattle.cow_volume.proofs.Reading.{unnamed_between}
@@ -200,19 +198,13 @@ point_of set (i ∷ images) e = by_test (i.set == set) (point_of set images) e w
 
 -- ## fewer images
 
-later_if : (t : Bool) (i j : Image) (images : List Image) → i.set < j.set → i.point ≤ j.point → AreLater i images → AreLater i (if t then j ∷ images else images)
-later_if t i j images e f h = grind arith
-
 later-filter : (test : Image → Bool) (i : Image) (images : List Image) → AreLater i images → AreLater i (filter test images)
 later-filter test i [] h = tt
-later-filter test i (j ∷ images) h = later_if (test j) i j (filter test images) h.0 h.1 (later-filter test i images h.2)
-
-in_time_if : (t : Bool) (n : ℕ) (i : Image) (images : List Image) → i.point ≤ n → AreLater i images → AreInTime n images → AreInTime n (if t then i ∷ images else images)
-in_time_if t n i images e f h = grind arith
+later-filter test i (j ∷ images) h = grind (arith, h.0, h.1, later-filter test i images h.2)
 
 in_time-filter : (test : Image → Bool) (n : ℕ) (images : List Image) → AreInTime n images → AreInTime n (filter test images)
 in_time-filter test n [] h = tt
-in_time-filter test n (i ∷ images) h = in_time_if (test i) n i (filter test images) h.0 (later-filter test i images h.1) (in_time-filter test n images h.2)
+in_time-filter test n (i ∷ images) h = grind (arith, h.0, later-filter test i images h.1, in_time-filter test n images h.2)
 
 pub AreImages-filter : (test : Image → Bool) (n : ℕ) (images : List Image) → AreImages n images → AreImages n (filter test images)
 AreImages-filter test n images are = record {
@@ -264,9 +256,6 @@ pub was_row : {X Y : Type 0} → (f : X → Y) (xs : List X) (slot : ℕ) (y : Y
 was_row f [] slot y at = absurd cc
 was_row f (x ∷ xs) zero y at = let is : f x ≡ y = cc in (x, refl, is)
 was_row f (x ∷ xs) (suc slot) y at = was_row f xs slot y at
-
-pub record_is : (r q : Record) → r.set ≡ q.set → r.block ≡ q.block → r.volume ≡ q.volume → r ≡ q
-record_is r q s b v = grind arith
 
 -- a record of the image of a set on volume v
 pub of_image : (v set : ℕ) (r : Record) → is_of v set r ≡ true → r ≡ record_of v set r.block
@@ -387,12 +376,8 @@ module _ (told slots : Option (List (List ℕ))) (records : List Record) (v n : 
   kept : (s b : ℕ) → s ≢ set → older ≢ Some s → is_named h.writes (without_set set h.images) s b ≡ is_named h.writes h.images s b
   kept s b other not_older = kept_named h.writes None set s b (length h.writes) h.images volume.images.in_time other (λ e. not_older (sym is_older ∙ e))
 
-  -- what an image other than this names, it names afterwards
-  still_named : (s b : ℕ) → s ≢ set → is_named h.writes h.images s b ≡ true → is_named h.writes (without_set set h.images) s b ≡ true
-  still_named s b other e = grind (arith, kept, same_number, joined, other_number)
-
   named_row : (slot s b : ℕ) (r : Record) → 0 < s → slice_get records slot ≡ Some r → MergedRow records v older set r (record_of v s b) → is_named h.writes (without_set set h.images) s b ≡ true
-  named_row slot s b r above at x6 = grind (arith, true_not_false, is_of-it, still_named, free_set, above_set, of_image, joined, or-true)
+  named_row slot s b r above at x6 = grind (arith, true_not_false, is_of-it, kept, same_number, other_number, free_set, above_set, of_image, joined, or-true)
 
   merged_named : (slot s b : ℕ) → 0 < s → slice_get (merged v older set records) slot ≡ Some (record_of v s b) → is_named h.writes (without_set set h.images) s b ≡ true
   merged_named slot s b above at =

@@ -9,20 +9,20 @@ use Rattle.std.proofs.lemmas.Option.{same_Some}
 use Rattle.std.proofs.lemmas.Simd.{map-map}
 use Rattle.write_history.specs.History.{History, dropped}
 use Rattle.diff_area.specs.declared.table_record.Record.{Record}
-use Rattle.diff_map.specs.MapValue.{AreImages}
+use Rattle.diff_map.specs.Copies.{AreImages}
 use Rattle.diff_map.specs.Rules.{next_older}
 use Rattle.diff_map.proofs.Images.{AreImages-filter, Contains-filter, next_older_is, next_older_reaches}
 use Rattle.cow_volume.specs.StandsFor.{record_of, StandsFor}
 use Rattle.cow_volume.specs.Changes.{has_record, merged, merged_row, cleared, cleared_row, IsFirstCopy, HasNoCopy}
-use Rattle.cow_volume.specs.Tied.{CopiesValue}
+use Rattle.cow_volume.specs.Parts.{CopiesValue, group_of}
 use Rattle.cow_volume.specs.Calls.{changed_at, is_among}
 use Rattle.cow_volume.specs.CopiesAfter.{images_on, after_merge}
-use Rattle.cow_volume.specs.Parts.{group_of}
 use Rattle.cow_volume.specs.Restoring.{IsMergedTo}
 use Rattle.cow_volume.proofs.Group.{number_is_other}
 use Rattle.cow_volume.proofs.Merging.{merged_from, merged_stays, merged_moves, was_row, found_record, free_set, AreWithin, of_image, is_of-other_set}
-use Rattle.cow_volume.proofs.DroppingNewer.{IsDropping, dropping_none, dropping_more, dropping_end, fewer_left, among_of, contains_of, images_after, last_most, merged_stands_within}
-use Rattle.cow_volume.proofs.MergeRules.{of_set}
+use Rattle.cow_volume.proofs.GroupReverts.{IsDropping, dropping_none, dropping_more, dropping_end, fewer_left, among_of, contains_of, images_after, last_most}
+use Rattle.cow_volume.proofs.GroupReverts.{merged_stands_within}
+use Rattle.cow_volume.proofs.Renewed.{of_set}
 
 -- ## one image goes
 

@@ -6,8 +6,7 @@ use Rattle.std.specs.List.{list_all}
 use Rattle.write_history.specs.History.{History, Write, point_in, written}
 use Rattle.write_history.specs.Slots.{gone_up_to, copies, copies_of}
 use Rattle.diff_area.specs.Copies.{AreStored}
-use Rattle.cow_volume.specs.GroupValue.{GroupValue, placed}
-use Rattle.cow_volume.specs.StandsFor.{StandsFor}
+use Rattle.cow_volume.specs.StandsFor.{GroupValue, placed, StandsFor}
 use Rattle.cow_volume.specs.Calls.{changed_at, blocks_in, IsQuiet, IsNow, IsShown, IsEvicted, IsWrite, IsDropped, IsRevert}
 use Rattle.cow_volume.specs.Ending.{AllTell, IsSync}
 use Rattle.cow_volume.specs.OneVolume.{StandsForOne, tells, without_up_to, IsEvictedOne, IsOneWrite, IsOneNow, IsOneShown, IsOneDropped, IsOneRevert, IsOneSync, copies_in}
@@ -19,7 +18,7 @@ use Rattle.cow_volume.specs.declared.revert_fault.RevertFault.{RevertFault}
 use Rattle.cow_volume.specs.declared.revert_fault.RevertFault.TheVariants.{NoSuchImage, Fault}
 use Rattle.cow_volume.proofs.Group.{quiet_stands}
 use Rattle.volume_device.specs.declared.device.Device.{Ghosts}
-use Rattle.diff_area.proofs.Valid.{and_left, and_right}
+use Rattle.diff_area.proofs.GoodRecords.{and_left, and_right}
 
 -- ## a list of one
 

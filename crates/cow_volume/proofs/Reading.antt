@@ -5,13 +5,12 @@ use Rattle.std.specs.List.{range_with_len}
 use Rattle.std.proofs.lemmas.Option.{same_Some, slice_get_within}
 use Rattle.std.proofs.lemmas.List.{take_all, take-take, drop-take, take-append-drop}
 use Rattle.std.proofs.lemmas.Bool.{false_from_ne_true}
-use Rattle.block_data.specs.Runs.{zeros}
+use Rattle.block_data.specs.BlockBytes.{zeros}
 use Rattle.write_history.specs.History.{Write, Image, History, last_bytes, content, contents, point_in, names, AreLater, AreInTime}
 use Rattle.write_history.specs.Slots.{writes_since}
-use Rattle.diff_area.specs.Places.{place_of_slot}
+use Rattle.diff_area.specs.Format.{place_of_slot}
 use Rattle.diff_area.specs.declared.table_record.Record.{Record}
-use Rattle.cow_volume.specs.StandsFor.{is_named, told_in, IsVolume, StandsFor}
-use Rattle.cow_volume.specs.GroupValue.{GroupValue}
+use Rattle.cow_volume.specs.StandsFor.{is_named, told_in, IsVolume, StandsFor, GroupValue}
 use Rattle.cow_volume.specs.Calls.{history_at, blocks_in, blocks_at, sets_in, sets_at, IsNow, IsSeen, IsShown}
 use Rattle.cow_volume.specs.Changes.{IsFirstCopy, HasNoCopy, IsInSlot, IsInVolume}
 use Rattle.cow_volume.proofs.Group.{same_number, number_is, number_is_other, set_above, named_point, told_in-tells, told_in-both, place_at}
@@ -148,14 +147,10 @@ slice_get-range f a (suc n) (suc i) l = let e : a + 1 + i ≡ a + suc i = omega 
 pub contents_at : (n : ℕ) (ws : List Write) (k b : ℕ) → b < n → slice_get (contents n ws k) b ≡ Some (content ws k b)
 contents_at n ws k b l = let e : 0 + b ≡ b = omega arith in slice_get-range (content ws k) 0 n b l ∙ ap (λ c. Some (content ws k c)) e
 
-now_if : (told : Option (List (List ℕ))) (n b : ℕ) (ws : List Write) → b < n → IfSome told (λ blocks. blocks ≡ contents n ws (length ws))
-    → IfSome told (λ blocks. slice_get blocks b ≡ Some (content ws (length ws) b))
-now_if told n b ws l held = grind (arith, contents_at)
-
 -- the device has each block as it is now
 pub now : (told slots : Option (List (List ℕ))) (records : List Record) (v n : ℕ) (sets : List ℕ) (h : History) (b : ℕ) → IsVolume told slots records v n sets h → b < n
     → IfSome told (λ blocks. slice_get blocks b ≡ Some (content h.writes (length h.writes) b))
-now told slots records v n sets h b volume l = now_if told n b h.writes l volume.blocks
+now told slots records v n sets h b volume l = grind (arith, contents_at, volume.blocks)
 
 -- the slot of the first image that has a copy holds what the asked image shows
 pub in_copy : (told slots : Option (List (List ℕ))) (records : List Record) (v n : ℕ) (sets : List ℕ) (h : History) (set b p slot : ℕ) → IsVolume told slots records v n sets h → b < n
@@ -253,10 +248,8 @@ group_shown_copy told g v set b slot bytes l found held = λ hs x p stands at te
 -- so what the device has, or the slot, is what is seen
 pub group_seen_there : {D : Type 0} → (told : D → Option (List (List ℕ))) (g : GroupValue D) (v : ℕ) (set : Option ℕ) (b : ℕ) (d : D) (bytes : List ℕ) → b < blocks_at g v
     → slice_get g.devices v ≡ Some d → IfSome (told d) (λ blocks. slice_get blocks b ≡ Some bytes) → IsInVolume g.area.records v set b → IsSeen told g v set b bytes
-group_seen_there told g v None b d bytes l device held none = group_now told g v b d bytes l device held
-group_seen_there told g v (Some set) b d bytes l device held none = group_shown_there told g v set b d bytes l device held none
+group_seen_there told g v set b d bytes l device held none = grind (arith, group_now, group_shown_there)
 
 pub group_seen_copy : {D : Type 0} → (told : D → Option (List (List ℕ))) (g : GroupValue D) (v : ℕ) (set : Option ℕ) (b slot : ℕ) (bytes : List ℕ) → b < blocks_at g v
     → IsInSlot g.area.records v set b slot → IfSome (told g.area.device) (λ blocks. slice_get blocks (place_of_slot (length g.area.records) slot) ≡ Some bytes) → IsSeen told g v set b bytes
-group_seen_copy told g v None b slot bytes l found held = absurd found
-group_seen_copy told g v (Some set) b slot bytes l found held = group_shown_copy told g v set b slot bytes l found held
+group_seen_copy told g v set b slot bytes l found held = grind (arith, group_shown_copy)

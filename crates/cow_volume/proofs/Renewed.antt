@@ -1,25 +1,54 @@
--- What the parts keep in step where the copies of a volume's images are renewed by a rule.
-use Rattle.std.proofs.Common.{ℕ, zero, suc, ◌≡◌, ◌≢◌, ◌<◌, Bool, true, false, List, [], ◌∷◌, length, map, Option, Some, None, slice_get, slice_set, refl, sym, ap, ◌∙◌, subst, arith, inl, inr}
-use Rattle.std.proofs.Common.{◌⊎◌}
-use Rattle.std.specs.Prelude.{IsSome, IsNone}
-use Rattle.std.specs.Option.{option_and_then}
+-- What the parts keep in step where the copies of a volume's images are renewed by a rule; and the rules by which images go, as rules of records.
+use Rattle.std.proofs.Common.{ℕ, zero, suc, ◌≡◌, ◌<◌, Bool, false, ◌&&◌, List, [], ◌∷◌, length, Option, Some, slice_get, slice_set, refl, sym, ap, arith, ◌≢◌}
+use Rattle.std.proofs.Common.{true, map, None, ◌∙◌, subst, inl, inr, ◌⊎◌}
 use Rattle.std.proofs.lemmas.Bool.{false≢true}
+use Rattle.std.proofs.lemmas.Bool.Decides.{nat_tests}
 use Rattle.std.proofs.lemmas.List.{length-map, length-set, map-set}
 use Rattle.std.proofs.lemmas.Option.{none-some, same_Some, slice_get_within}
+use Rattle.std.specs.Option.{option_and_then}
+use Rattle.std.specs.Prelude.{◌==◌, nat_lt, if◌then◌else◌, IsSome, IsNone}
 use Rattle.slot_pool.specs.Slots.{IsTaken}
-use Rattle.diff_area.proofs.Gets.{get-set}
-use Rattle.diff_area.specs.Records.{is_free}
-use Rattle.diff_area.specs.declared.table_record.Record.{Record}
-use Rattle.diff_map.specs.Copies.{copied_at, AllTaken}
-use Rattle.diff_map.specs.MapValue.{MapValue, IsMap}
-use Rattle.diff_map.specs.Rules.{renewed, GivesBack}
+use Rattle.diff_map.specs.Copies.{copied_at, AllTaken, copy_of, has_copy, MapValue, IsMap}
+use Rattle.diff_map.specs.Rules.{renewed, GivesBack, merged as merged_rule, gone as gone_rule, handed_down as handed_on}
 use Rattle.diff_map.specs.declared.copied.Copied.{Copied}
-use Rattle.diff_map.proofs.Kept.{copied_at-renewed}
+use Rattle.diff_map.proofs.Images.{Merged, merged_from}
+use Rattle.diff_map.proofs.Renewal.{copied_at-renewed, row_from_has, has_from_row}
+use Rattle.diff_area.specs.Format.{is_free}
+use Rattle.diff_area.specs.declared.table_record.Record.{Record}
+use Rattle.diff_area.proofs.ByPlace.{get-set}
+use Rattle.cow_volume.specs.Changes.{has_record, is_of, handed_down, merged_row, gone_on_row, record_for, followed_row, followed}
 use Rattle.cow_volume.specs.StandsFor.{record_of}
-use Rattle.cow_volume.specs.Tied.{copied_for, AreTied, images_of}
-use Rattle.cow_volume.specs.Followed.{followed_row, followed}
-use Rattle.cow_volume.proofs.Rows.{record_of_row, row_at, record-from, get_inside, used_is, map-from}
-use Rattle.cow_volume.proofs.FollowedRows.{length-followed, followed_at}
+use Rattle.cow_volume.specs.Parts.{copied_for, AreTied, images_of}
+use Rattle.cow_volume.proofs.Rows.{of_volume, record_of_row, row_at, record-from, get_inside, used_is, map-from, copied_for-is, both_from, row_of_record}
+use Rattle.cow_volume.proofs.Rows.{has_slot, has_from_slot, bools_by, same_record}
+
+-- ## The records that follow their map, slot by slot.
+
+pub follows-of : (v : ℕ) (c : Option Copied) (r : Record) → 0 < r.set → r.volume ≡ v → followed_row v c r ≡ record_for v c
+follows-of v c r some same = ap (λ (t : Bool). if t then record_for v c else r) (of_volume v r some same)
+
+pub follows-other : (v : ℕ) (c : Option Copied) (r : Record) → (nat_lt 0 r.set && (r.volume == v)) ≡ false → followed_row v c r ≡ r
+follows-other v c r h = ap (λ (t : Bool). if t then record_for v c else r) h
+
+pub length-followed : (v : ℕ) (copies : List (Option Copied)) (records : List Record) → length (followed v copies records) ≡ length records
+length-followed v [] records = refl
+length-followed v (c ∷ copies) [] = refl
+length-followed v (c ∷ copies) (r ∷ rs) = ap suc (length-followed v copies rs)
+
+pub followed_at : (v : ℕ) (copies : List (Option Copied)) (records : List Record) (k : ℕ) (r : Record) → length copies ≡ length records → slice_get records k ≡ Some r
+    → slice_get (followed v copies records) k ≡ Some (followed_row v (copied_at copies k) r)
+followed_at v [] [] k r long h = absurd (none-some r h)
+followed_at v [] (q ∷ rs) k r long h = absurd (omega arith)
+followed_at v (c ∷ copies) [] k r long h = absurd (none-some r h)
+followed_at v (c ∷ copies) (q ∷ rs) zero r long h = ap (λ (x : Record). Some (followed_row v c x)) (same_Some q r h)
+followed_at v (c ∷ copies) (q ∷ rs) (suc k) r long h = followed_at v copies rs k r (omega arith) h
+
+pub set-same : (records : List Record) (i : ℕ) (r : Record) → slice_get records i ≡ Some r → slice_set records i r ≡ records
+set-same [] i r h = refl
+set-same (q ∷ rs) zero r h = ap (λ x. x ∷ rs) (sym (same_Some q r h))
+set-same (q ∷ rs) (suc i) r h = ap (λ xs. q ∷ xs) (set-same rs i r h)
+
+-- ## What the parts keep in step where the copies of a volume's images are renewed by a rule.
 
 -- The rule gives no copy of set 0, and none that another slot's record has; and f says what becomes of a record by it.
 pub record IsRuleOf (records : List Record) (v : ℕ) (rule : Copied → Option Copied) (f : Record → Record) : Type 0 where
@@ -70,16 +99,11 @@ other_map u v [] records other = refl
 other_map u v (c ∷ copies) [] other = refl
 other_map u v (c ∷ copies) (r ∷ rs) other = ap (λ x. x ∷ map (copied_for u) (followed v copies rs)) (other_row u v c r other) ∙ ap (λ xs. copied_for u r ∷ xs) (other_map u v copies rs other)
 
--- its own map
-own_row : (v : ℕ) (rule : Copied → Option Copied) (r : Record) → ((c d : Copied) → rule c ≡ Some d → 0 < c.set → 0 < d.set)
-    → copied_for v (followed_row v (option_and_then rule (copied_for v r)) r) ≡ option_and_then rule (copied_for v r)
-own_row v rule r above = grind arith
-
 pub own_map : (v : ℕ) (rule : Copied → Option Copied) (records : List Record) → ((c d : Copied) → rule c ≡ Some d → 0 < c.set → 0 < d.set)
     → map (copied_for v) (followed v (map (option_and_then rule) (map (copied_for v) records)) records) ≡ map (option_and_then rule) (map (copied_for v) records)
 own_map v rule [] above = refl
 own_map v rule (r ∷ rs) above =
-    ap (λ x. x ∷ map (copied_for v) (followed v (map (option_and_then rule) (map (copied_for v) rs)) rs)) (own_row v rule r above)
+    ap (λ x. x ∷ map (copied_for v) (followed v (map (option_and_then rule) (map (copied_for v) rs)) rs)) (grind arith)
     ∙ ap (λ xs. option_and_then rule (copied_for v r) ∷ xs) (own_map v rule rs above)
 
 -- ## the pool
@@ -156,3 +180,74 @@ tied_after volumes records maps pool new_pool v m n rule f tied at copies_are bl
 
 pub images_after : (maps : List MapValue) (v : ℕ) (n : MapValue) → images_of (slice_set maps v n) ≡ slice_set (images_of maps) v n.images
 images_after maps v n = map-set (λ (m : MapValue). m.images) maps v n
+
+-- ## The rules by which images go, as rules of records.
+
+-- the map has a copy just where a record is that of it
+pub has_copy-record : (records : List Record) (v set block : ℕ) → 0 < set → has_copy (map (copied_for v) records) set block ≡ has_record records (record_of v set block)
+has_copy-record records v set block some = bools_by (has_copy (map (copied_for v) records) set block) (has_record records (record_of v set block))
+    (λ h. let at = row_from_has (map (copied_for v) records) set block h in has_from_slot records (record_of v set block) at.0 (record_of_row v records at.0 (copy_of set block) at.1).1)
+    (λ h. let at = has_slot records (record_of v set block) h in has_from_row (map (copied_for v) records) at.0 set block (row_of_record v records at.0 set block some at.1))
+
+pub of_set : (v set : ℕ) (r : Record) → r.volume ≡ v → r.set ≡ set → is_of v set r ≡ true
+of_set v set r a b = grind (arith, nat_tests)
+
+not_of_set : (v set w s : ℕ) → (w ≢ v) ⊎ (s ≢ set) → ((w == v) && (s == set)) ≡ false
+not_of_set v set w s h = grind arith
+
+-- a used record of volume v, or another one
+pub not_used : (v : ℕ) (r : Record) → (nat_lt 0 r.set && (r.volume == v)) ≡ false → (r.volume ≢ v) ⊎ (r.set ≡ 0)
+not_used v r h = grind arith
+
+-- ## an image is merged down
+
+handed : (records : List Record) (v : ℕ) (older : Option ℕ) (set block : ℕ) → ((n : ℕ) → older ≡ Some n → 0 < n)
+    → record_for v (handed_on (map (copied_for v) records) older block) ≡ handed_down records v older block
+handed records v older set block above = grind (arith, has_copy-record)
+
+merge_row : (records : List Record) (v : ℕ) (older : Option ℕ) (set : ℕ) → 0 < set → ((n : ℕ) → older ≡ Some n → 0 < n) → (r : Record)
+    → followed_row v (option_and_then (merged_rule (map (copied_for v) records) older set) (copied_for v r)) r ≡ merged_row records v older set r
+merge_row records v older set some above r = by_test (nat_lt 0 r.set && (r.volume == v)) refl where
+  by_set : 0 < r.set → r.volume ≡ v → (t : Bool) → (r.set == set) ≡ t → record_for v (merged_rule (map (copied_for v) records) older set (copy_of r.set r.block)) ≡ merged_row records v older set r
+  by_set a b true e =
+      let same : r.set ≡ set = grind (arith, nat_tests) in
+      ap (λ (t : Bool). record_for v (if t then handed_on (map (copied_for v) records) older r.block else Some (copy_of r.set r.block))) e
+      ∙ handed records v older set r.block above
+      ∙ sym (ap (λ (t : Bool). if t then handed_down records v older r.block else r) (of_set v set r b same))
+  by_set a b false e =
+      let apart : r.set ≢ set = grind (arith, nat_tests) in
+      ap (λ (t : Bool). record_for v (if t then handed_on (map (copied_for v) records) older r.block else Some (copy_of r.set r.block))) e
+      ∙ same_record (record_of v r.set r.block) r refl refl (sym b)
+      ∙ sym (ap (λ (t : Bool). if t then handed_down records v older r.block else r) (not_of_set v set r.volume r.set (inr apart)))
+
+  by_test : (t : Bool) → (nat_lt 0 r.set && (r.volume == v)) ≡ t
+      → followed_row v (option_and_then (merged_rule (map (copied_for v) records) older set) (copied_for v r)) r ≡ merged_row records v older set r
+  by_test true e =
+      let both = both_from r.set v r.volume e in
+      follows-of v (option_and_then (merged_rule (map (copied_for v) records) older set) (copied_for v r)) r both.0 both.1
+      ∙ ap (λ o. record_for v (option_and_then (merged_rule (map (copied_for v) records) older set) o)) (copied_for-is v r both.0 both.1)
+      ∙ by_set both.0 both.1 (r.set == set) refl
+  by_test false e =
+      follows-other v (option_and_then (merged_rule (map (copied_for v) records) older set) (copied_for v r)) r e
+      ∙ sym (ap (λ (t : Bool). if t then handed_down records v older r.block else r)
+      (not_of_set v set r.volume r.set (elim (not_used v r e) [ inl other ↦ inl other | inr none ↦ inr (λ same. absurd (omega arith)) ])))
+
+merge_above : (copies : List (Option Copied)) (older : Option ℕ) (set : ℕ) (c d : Copied) → ((n : ℕ) → older ≡ Some n → 0 < n) → Merged copies older set c d → 0 < c.set → 0 < d.set
+merge_above copies older set c d above x6 some = grind arith
+
+merge_fresh : (records : List Record) (v : ℕ) (older : Option ℕ) (set : ℕ) (c d : Copied) → ((n : ℕ) → older ≡ Some n → 0 < n) → Merged (map (copied_for v) records) older set c d
+    → (d ≡ c) ⊎ ((other : ℕ) → slice_get records other ≡ Some (record_of v d.set d.block) → ⊥)
+merge_fresh records v older set c d above x7 = grind (arith, row_of_record, has_from_row)
+
+pub rule-merged : (records : List Record) (v : ℕ) (older : Option ℕ) (set : ℕ) → 0 < set → ((n : ℕ) → older ≡ Some n → 0 < n)
+    → IsRuleOf records v (merged_rule (map (copied_for v) records) older set) (merged_row records v older set)
+rule-merged records v older set some above = record {
+  above = λ c d gives more. merge_above (map (copied_for v) records) older set c d above (merged_from (map (copied_for v) records) older set c d gives) more;
+  fresh = λ c d gives more. merge_fresh records v older set c d above (merged_from (map (copied_for v) records) older set c d gives);
+  row = merge_row records v older set some above;
+}
+
+-- ## the copies from a set on are cleared
+
+pub rule-gone : (records : List Record) (v set : ℕ) → IsRuleOf records v (gone_rule set) (gone_on_row v set)
+rule-gone records v set = grind arith

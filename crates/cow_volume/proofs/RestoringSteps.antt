@@ -10,11 +10,10 @@ use Rattle.volume_device.specs.declared.device.Device.{Ghosts}
 use Rattle.write_history.specs.History.{History, Image, Write, names, point_in, sets_of, up_to_set, to_restore, reverted, reverted_in_part}
 use Rattle.write_history.specs.Slots.{writes_since}
 use Rattle.diff_area.specs.AreaValue.{KeepsTable}
-use Rattle.diff_area.specs.Places.{place_of_slot}
+use Rattle.diff_area.specs.Format.{place_of_slot}
 use Rattle.diff_area.specs.declared.table_record.Record.{Record}
-use Rattle.cow_volume.specs.GroupValue.{GroupValue}
-use Rattle.cow_volume.specs.StandsFor.{told_in, record_of, is_named, IsVolume, StandsFor}
-use Rattle.cow_volume.specs.Tied.{CopiesValue}
+use Rattle.cow_volume.specs.StandsFor.{GroupValue, told_in, record_of, is_named, IsVolume, StandsFor}
+use Rattle.cow_volume.specs.Parts.{CopiesValue, group_of, IsPut}
 use Rattle.cow_volume.specs.Changes.{IsFirstCopy}
 use Rattle.cow_volume.specs.CopiesAfter.{images_on, after_clear}
 use Rattle.cow_volume.specs.Calls.{history_at, changed_at, blocks_in, blocks_at, sets_in, sets_at, is_among, IsKept, IsUnfailed, VolumeRose, DeviceRose, IsReverted, IsRevertedInPart, IsRevert}
@@ -22,18 +21,15 @@ use Rattle.cow_volume.specs.declared.cause.Cause.{Cause}
 use Rattle.cow_volume.specs.declared.cause.Cause.TheVariants.{Volume}
 use Rattle.cow_volume.specs.declared.revert_fault.RevertFault.{RevertFault}
 use Rattle.cow_volume.specs.declared.revert_fault.RevertFault.TheVariants.{NoSuchImage, Fault}
-use Rattle.cow_volume.specs.Parts.{group_of, IsPut}
 use Rattle.cow_volume.specs.Restoring.{with_up_to, AreNewerGone, AreRestored, IsPutBack, IsNotPutBack, IsOneRestored, IsStopped, IsRestoring}
 use Rattle.cow_volume.proofs.Members.{Has}
 use Rattle.cow_volume.proofs.Group.{same_number, slice_get_inside, slice_set-same, place_at, history_at_is, changed_at-same}
-use Rattle.cow_volume.proofs.Clearing.{length-cleared}
-use Rattle.cow_volume.proofs.NewerGone.{without_newer, all_kept, point_kept, reverted_from, reverted_in_part_from}
+use Rattle.cow_volume.proofs.GoingBack.{length-cleared, without_newer, all_kept, point_kept, reverted_from, reverted_in_part_from}
 use Rattle.cow_volume.proofs.Reverting.{restores, restored_none, restored_below, point_within, block_kept, block_restored, next_restored}
-use Rattle.cow_volume.proofs.GroupReverts.{changed_at-twice, changed_at-agree, changed_at-none, restoring_at, restoring_all, up_to_sets}
+use Rattle.cow_volume.proofs.GroupReverts.{changed_at-twice, changed_at-agree, changed_at-none, restoring_at, restoring_all, up_to_sets, most_of, images_row}
 use Rattle.cow_volume.proofs.DeviceCalls.{still_lasts}
-use Rattle.cow_volume.proofs.Kept.{kept_itself, kept_further, sizes_kept, kept_records, kept_area, kept_called, quiet_area, quiet_called, quiet_further, quiet_stands, volume_rose_if}
+use Rattle.cow_volume.proofs.Kept.{kept_itself, kept_further, sizes_kept, kept_records, kept_called, quiet_area, quiet_called, quiet_further, quiet_stands, volume_rose_if}
 use Rattle.cow_volume.proofs.Kept.{unfailed_called}
-use Rattle.cow_volume.proofs.DroppingNewer.{most_of, images_row}
 
 -- ## the volume before the first block
 
@@ -252,7 +248,7 @@ put_back ghosts devices after old new v set b slot bytes failed found table imag
   devices = put.call.devices;
   written = put.written e;
   unfailed = unfailed_called ghosts v devices after failed old new put.call e unfailed;
-  kept = kept_further ghosts (group_of devices old) (group_of devices new) (group_of after new) (kept_area ghosts devices old new table (ap is_some same) later)
+  kept = kept_further ghosts (group_of devices old) (group_of devices new) (group_of after new) (grind (arith, ap is_some same))
       (kept_called ghosts v devices after failed new put.call);
   records = table.records;
   images = images;

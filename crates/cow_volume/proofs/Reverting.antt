@@ -7,20 +7,19 @@ use Rattle.std.specs.List.{range_with_len}
 use Rattle.std.proofs.lemmas.List.{append_assoc, append-nil, map-append, length-append, length-take-le, take_all, take-take, take_at}
 use Rattle.std.proofs.lemmas.List.Elements.{filter-append}
 use Rattle.std.proofs.lemmas.Bool.{or_left}
-use Rattle.block_data.specs.Runs.{zeros}
+use Rattle.block_data.specs.BlockBytes.{zeros}
 use Rattle.write_history.specs.History.{Write, Image, History, last_bytes, content, contents, point_in, up_to_set, written, names, to_restore, restoring, reverted, reverted_in_part, AreInTime}
-use Rattle.diff_area.specs.Places.{place_of_slot}
+use Rattle.diff_area.specs.Format.{place_of_slot}
 use Rattle.diff_area.specs.declared.table_record.Record.{Record}
 use Rattle.cow_volume.specs.StandsFor.{is_named, record_of, IsVolume}
 use Rattle.cow_volume.specs.Changes.{cleared}
 use Rattle.cow_volume.proofs.Members.{Has, has_at, has-filter, from-filter, has-range, from-range}
-use Rattle.cow_volume.proofs.Clearing.{from_cleared, to_cleared, length-cleared}
+use Rattle.cow_volume.proofs.GoingBack.{from_cleared, to_cleared, length-cleared, AreUpTo, without_newer, are_up_to, point_kept, image_at, stands_last, last_of}
+use Rattle.cow_volume.proofs.GoingBack.{in_time_cut, named-more, named-cut, none-named-cut, map-same, slots-before, restored_one}
 use Rattle.cow_volume.proofs.Group.{same_number}
 use Rattle.cow_volume.proofs.Named.{Stands, numbers_are, named_of, of_point, of_named, above_zero}
-use Rattle.cow_volume.proofs.NewerGone.{AreUpTo, without_newer, are_up_to, point_kept, image_at, stands_last, last_of, in_time_cut}
 use Rattle.cow_volume.proofs.Reading.{last_bytes-append, content_all, unnamed_same, unnamed_since, point_within as point_in_time}
 use Rattle.cow_volume.proofs.Writing.{content-before, since-more, in_time-more}
-use Rattle.cow_volume.proofs.MoreWrites.{named-more, named-cut, none-named-cut, map-same, slots-before, restored_one}
 
 -- ## the blocks to restore
 
@@ -30,17 +29,13 @@ newest_names : (told slots : Option (List (List ℕ))) (records : List Record) (
 newest_names told slots records v n sets h set p b is e =
     named_of (length h.writes) h.writes (up_to_set set h.images) (image_at set p) [] b is.images.in_time (last_of set p h is.images.in_time e)
 
-set_above : (told slots : Option (List (List ℕ))) (records : List Record) (v n : ℕ) (sets : List ℕ) (h : History) (set p : ℕ) → IsVolume told slots records v n sets (without_newer set h)
-    → point_in set h.images ≡ Some p → 0 < set
-set_above told slots records v n sets h set p is e = grind (arith, above_zero, last_of)
-
 -- the blocks that have a copy for the set are those that are named since its point
 pub restores : (told slots : Option (List (List ℕ))) (records : List Record) (v n : ℕ) (sets : List ℕ) (h : History) (set p b : ℕ) → IsVolume told slots records v n sets (without_newer set h)
     → point_in set h.images ≡ Some p → b < n
     → ((slot : ℕ) × (slice_get records slot ≡ Some (record_of v set b))) ↔ (names (drop p h.writes) b ≡ true)
 restores told slots records v n sets h set p b is e l =
     let same = newest_names told slots records v n sets h set p b is e in
-    ((λ at. sym same ∙ is.named at.0 set b (set_above told slots records v n sets h set p is e) at.1), (λ f. is.recorded set b l (same ∙ f)))
+    ((λ at. sym same ∙ is.named at.0 set b (grind (arith, above_zero, last_of)) at.1), (λ f. is.recorded set b l (same ∙ f)))
 
 -- the point is none past the end
 pub point_within : (told slots : Option (List (List ℕ))) (records : List Record) (v n : ℕ) (sets : List ℕ) (h : History) (set p : ℕ) → IsVolume told slots records v n sets (without_newer set h)
@@ -175,11 +170,6 @@ contents_restored n ws p =
     map-same (content (ws ++ map (restoring ws p) (to_restore n ws p)) (length (ws ++ map (restoring ws p) (to_restore n ws p)))) (content (take p ws) (length (take p ws))) (range_with_len 0 n)
     (λ b m. let l = from-range 0 n b m in content_restored n ws p b (omega arith) ∙ sym (content_all (take p ws) b))
 
-told_restored : (told : Option (List (List ℕ))) (n : ℕ) (ws : List Write) (p : ℕ)
-    → IfSome told (λ blocks. blocks ≡ contents n (ws ++ map (restoring ws p) (to_restore n ws p)) (length (ws ++ map (restoring ws p) (to_restore n ws p))))
-    → IfSome told (λ blocks. blocks ≡ contents n (take p ws) (length (take p ws)))
-told_restored told n ws p held = grind (arith, contents_restored)
-
 up_to_all : (set : ℕ) (is : List Image) (i : Image) (newer : List Image) → AreUpTo set is → Stands i newer is → i.set ≤ set
 up_to_all set [] i newer u h = absurd h
 up_to_all set (j ∷ js) i newer u (inl e) = let P : Image → Type 0 = λ x. x.set ≤ set in subst P e.0 u.0
@@ -199,7 +189,7 @@ restored_last told slots records v n sets ws is set p l u last volume =
     let same = λ (s b : ℕ). named-more ws more is (image_at set p) s b last early (restoring_named n ws p b) in
     let cut = λ (s b : ℕ) (d : set ≢ s). named-cut p ws is (image_at set p) s b last in_time d in
     record {
-      blocks = told_restored told n ws p volume.blocks;
+      blocks = grind (arith, contents_restored, volume.blocks);
       sets_are = volume.sets_are;
       images = record { in_time = subst (λ k. AreInTime k is) long in_time; above_zero = volume.images.above_zero; few = volume.images.few };
       named = λ slot s b above at.

@@ -3,7 +3,6 @@
 use Rattle.std.proofs.Common.{ℕ, zero, suc, ◌≡◌, ◌<◌, ◌≤◌, ◌+◌, ◌-◌, Bool, true, false, List, [], ◌∷◌, ◌++◌, length, Option, Some, None, slice_get, refl, sym, ap, ◌∙◌, subst, arith}
 use Rattle.std.proofs.Common.{append_assoc, append-nil, length-append}
 use Rattle.std.specs.Prelude.{◌==◌, ◌&&◌, ◌||◌, if◌then◌else◌, All, AllPairs}
-use Rattle.std.specs.List.{slice_range}
 use Rattle.std.proofs.Math.Seq.{drop-append_seam}
 use Rattle.std.proofs.lemmas.List.{take-append-le, take_all}
 use Rattle.std.proofs.lemmas.Bool.{false≢true, and_from, and_parts}
@@ -12,9 +11,8 @@ use Rattle.std.proofs.lemmas.Option.{none-some, same_Some, slice_get_within, get
 use Rattle.write_history.specs.History.{Write, Image, History, AreInTime, AreLater, names, sets_of}
 use Rattle.write_history.specs.Slots.{writes_since}
 use Rattle.diff_area.specs.declared.table_record.Record.{Record}
-use Rattle.diff_map.specs.MapValue.{AreImages as ArePlaced}
-use Rattle.cow_volume.specs.GroupValue.{GroupValue}
-use Rattle.cow_volume.specs.StandsFor.{AreImages, IsVolume, StandsFor, is_named, record_of}
+use Rattle.diff_map.specs.Copies.{AreImages as ArePlaced}
+use Rattle.cow_volume.specs.StandsFor.{GroupValue, AreImages, IsVolume, StandsFor, is_named, record_of}
 use Rattle.cow_volume.specs.Calls.{is_among, sets_in}
 use Rattle.cow_volume.specs.Changes.{is_of}
 use Rattle.cow_volume.specs.Resuming.{AllHaveImages, NoneTell}
@@ -33,9 +31,6 @@ abbrev recorded : ℕ → ℕ → List Record → List Write
 recorded v set [] = []
 recorded v set (r ∷ rs) = if is_of v set r then unknown r.block ∷ recorded v set rs else recorded v set rs
 
-either_named : (t : Bool) (w : Write) (ws : List Write) (b : ℕ) → names ws b ≡ true → names (if t then w ∷ ws else ws) b ≡ true
-either_named t w ws b e = grind arith
-
 named-recorded : (v set b slot : ℕ) (records : List Record) → slice_get records slot ≡ Some (record_of v set b) → names (recorded v set records) b ≡ true
 named-recorded v set b slot [] at = absurd (none-some (record_of v set b) at)
 named-recorded v set b zero (r ∷ rs) at =
@@ -43,7 +38,7 @@ named-recorded v set b zero (r ∷ rs) at =
     ap (λ (x : Record). names (recorded v set (x ∷ rs)) b) is
     ∙ ap (λ (t : Bool). names (if t then unknown b ∷ recorded v set rs else recorded v set rs) b) (is_of-it v set b)
     ∙ ap (λ (t : Bool). t || names (recorded v set rs) b) (number_is b)
-named-recorded v set b (suc slot) (r ∷ rs) at = either_named (is_of v set r) (unknown r.block) (recorded v set rs) b (named-recorded v set b slot rs at)
+named-recorded v set b (suc slot) (r ∷ rs) at = grind (arith, named-recorded v set b slot rs at)
 
 -- a slot has the copy of block b
 abbrev HasRow : ℕ → ℕ → ℕ → List Record → Type 0
@@ -115,14 +110,11 @@ are_images v records sets placed = grind (arith, are_in_time, above_zero, length
 shorter : (a b : ℕ) → (a + b) - a ≡ b
 shorter a b = omega arith
 
-take_own : (before own more : List Write) → slice_range (before ++ (own ++ more)) (length before) (length before + length own) ≡ own
-take_own before own more = grind (arith, shorter, drop-append_seam, take-append-le, take_all)
-
 since : (v : ℕ) (records : List Record) (before : List Write) (set : ℕ) (sets : List ℕ)
     → writes_since (before ++ (recorded v set records ++ all_recorded v records sets)) (length before)
     (images_at v records (length before + length (recorded v set records)) sets) ≡ recorded v set records
 since v records before set [] = drop-append_seam before (recorded v set records ++ []) ∙ append-nil (recorded v set records)
-since v records before set (next ∷ sets) = take_own before (recorded v set records) (all_recorded v records (next ∷ sets))
+since v records before set (next ∷ sets) = grind (arith, shorter, drop-append_seam, take-append-le, take_all)
 
 -- the writes before are more by those of the next image
 grown : (v : ℕ) (records : List Record) (before own : List Write) (sets : List ℕ) (set b : ℕ)

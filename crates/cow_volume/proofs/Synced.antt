@@ -1,31 +1,26 @@
 -- A group stands for what it stood for where only the header and the table of its area's device were written.
-use Rattle.std.proofs.Common.{◌≡◌, ◌≤◌, ◌+◌, ℕ, Bool, List, take, length, map, refl, ap, sym, subst, ◌∙◌, arith, Option, Some}
+use Rattle.std.proofs.Common.{◌≡◌, ◌≤◌, ℕ, Bool, List, take, length, map, refl, ap, sym, subst, ◌∙◌, arith, Option, Some}
 use Rattle.std.specs.Prelude.{is_some, slice_get, option_map, IfSome, Result}
 use Rattle.std.proofs.lemmas.List.{length-take-le, take_all}
 use Rattle.write_history.specs.History.{History, content}
 use Rattle.write_history.specs.Slots.{Copy, copies}
-use Rattle.diff_area.specs.AreaValue.{KeepsTable, AreInPart, with_first}
+use Rattle.diff_area.specs.AreaValue.{KeepsTable, AreInPart, with_first, table_blocks}
 use Rattle.diff_area.specs.Copies.{AreHeld, AreStored}
 use Rattle.diff_area.specs.Loading.{IsReadFrom}
-use Rattle.diff_area.specs.Places.{blocks_for, table_for, place_of_slot}
-use Rattle.diff_area.specs.Records.{AreRecords, AreVolumes}
-use Rattle.diff_area.specs.Written.{table_blocks}
+use Rattle.diff_area.specs.Format.{blocks_for, table_for, place_of_slot, AreRecords, AreVolumes}
 use Rattle.diff_area.specs.declared.table_record.Record.{Record}
-use Rattle.diff_area.proofs.Gets.{get-with_first-past}
-use Rattle.diff_area.proofs.Stored.{read_told}
-use Rattle.diff_area.proofs.TableBlocks.{length-table}
+use Rattle.diff_area.proofs.ByPlace.{get-with_first-past, length-table}
+use Rattle.diff_area.proofs.OnDevice.{read_told}
 use Rattle.std.specs.List.{concat}
-use Rattle.volume_device.specs.Blocks.{AreBlocks}
-use Rattle.cow_volume.specs.GroupValue.{GroupValue, placed}
-use Rattle.cow_volume.specs.StandsFor.{told_in, IsVolume, StandsFor}
-use Rattle.cow_volume.specs.Tied.{CopiesValue}
+use Rattle.volume_device.specs.InMemory.{AreBlocks}
+use Rattle.cow_volume.specs.StandsFor.{GroupValue, placed, told_in, IsVolume, StandsFor}
+use Rattle.cow_volume.specs.Parts.{CopiesValue, group_of}
 use Rattle.cow_volume.specs.Calls.{IsQuiet}
-use Rattle.cow_volume.specs.Parts.{group_of}
 use Rattle.cow_volume.specs.Ending.{IsSynced, IsSync, IsTableWritten, AllTell}
 use Rattle.cow_volume.specs.declared.cause.Cause.{Cause}
 use Rattle.cow_volume.proofs.Group.{told_in-slots, quiet_stands as group_stands}
 use Rattle.cow_volume.proofs.Stored.{held_copies}
-use Rattle.cow_volume.proofs.Kept.{kept_area, kept_further, quiet_stands, sizes_kept}
+use Rattle.cow_volume.proofs.Kept.{kept_further, quiet_stands, sizes_kept}
 use Rattle.volume_device.specs.declared.device.Device.{Ghosts}
 
 pub tells_written : (old new : Option (List (List ℕ))) (first : List (List ℕ)) → new ≡ option_map (with_first first) old → is_some new ≡ is_some old
@@ -40,9 +35,6 @@ before_first : (old new : Option (List (List ℕ))) (first : List (List ℕ)) (p
     → IfSome new (λ blocks. slice_get blocks place ≡ Some bytes) → IfSome old (λ blocks. slice_get blocks place ≡ Some bytes)
 before_first old new first place bytes l e h = grind (arith, get-with_first-past)
 
-further_on : (a b c : ℕ) → a ≤ b → a ≤ b + c
-further_on a b c l = omega arith
-
 synced_volume : (told old new : Option (List (List ℕ))) (records : List Record) (v n : ℕ) (sets : List ℕ) (h : History) (first : List (List ℕ)) → length first ≤ table_for (length records)
     → new ≡ option_map (with_first first) old
     → IsVolume told old records v n sets h → IsVolume told new records v n sets h
@@ -53,7 +45,7 @@ synced_volume told old new records v n sets h first l e volume = record {
   named = volume.named;
   recorded = volume.recorded;
   copied = λ slot set b p at point tells.
-      past_first old new first (place_of_slot (length records) slot) (content h.writes p b) (further_on (length first) (table_for (length records)) slot l) e
+      past_first old new first (place_of_slot (length records) slot) (content h.writes p b) (omega arith) e
       (volume.copied slot set b p at point tells);
 }
 
@@ -67,7 +59,7 @@ stood_volume told old new records v n sets h first l e volume = record {
   named = volume.named;
   recorded = volume.recorded;
   copied = λ slot set b p at point tells.
-      before_first old new first (place_of_slot (length records) slot) (content h.writes p b) (further_on (length first) (table_for (length records)) slot l) e
+      before_first old new first (place_of_slot (length records) slot) (content h.writes p b) (omega arith) e
       (volume.copied slot set b p at point tells);
 }
 
@@ -109,7 +101,7 @@ synced_first : {D : Type 0} (ghosts : Ghosts D) (devices : List D) (old new : Co
     → ghosts.told new.area.device ≡ option_map (with_first first) (ghosts.told old.area.device)
     → IsSynced ghosts (group_of devices old) (group_of devices new)
 synced_first ghosts devices old new first table images later l e = record {
-  kept = kept_area ghosts devices old new table (tells_written (ghosts.told old.area.device) (ghosts.told new.area.device) first e) later;
+  kept = grind (arith, tells_written (ghosts.told old.area.device) (ghosts.told new.area.device) first e);
   devices = refl;
   records = table.records;
   images = images;

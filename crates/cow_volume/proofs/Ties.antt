@@ -7,21 +7,19 @@ use Rattle.std.proofs.lemmas.List.{length-set, map-set}
 use Rattle.std.proofs.lemmas.List.Sums.{sum_by-cons}
 use Rattle.std.proofs.lemmas.Option.{none-some, same_Some, slice_get-map, slice_get_within}
 use Rattle.slot_pool.specs.Slots.{IsLowestFree, free_count}
-use Rattle.diff_area.proofs.Gets.{get-set}
-use Rattle.diff_area.specs.Records.{free, is_free, used_in}
+use Rattle.diff_area.proofs.ByPlace.{get-set}
+use Rattle.diff_area.specs.Format.{free, is_free, used_in}
 use Rattle.diff_area.specs.declared.table_record.Record.{Record}
-use Rattle.diff_map.specs.Copies.{copied_at, copy_of, HasCopy}
-use Rattle.diff_map.specs.Chains.{IsFound, IsAbsent}
+use Rattle.diff_map.specs.Copies.{copied_at, copy_of, HasCopy, IsFound, IsAbsent, MapValue, IsMap, AreImages, newest}
 use Rattle.diff_map.specs.Groups.{IsUnnoted, map_at}
-use Rattle.diff_map.specs.MapValue.{MapValue, IsMap, AreImages, newest}
 use Rattle.diff_map.specs.declared.copied.Copied.{Copied}
 use Rattle.cow_volume.specs.StandsFor.{record_of}
 use Rattle.cow_volume.specs.Changes.{IsFirstCopy, HasNoCopy}
 use Rattle.cow_volume.specs.Calls.{sets_in}
 use Rattle.cow_volume.specs.Room.{lacks_copy, is_full}
-use Rattle.cow_volume.specs.Tied.{copied_for, AreTied, AreOfImages, images_of}
-use Rattle.cow_volume.proofs.GroupMaps.{get_map}
-use Rattle.cow_volume.proofs.Rows.{used_is, copied_for-other, copied_for-is, record_of_row, row_of_record, map-from, has_from_slot, found_copy, absent_copy, copy_absent}
+use Rattle.cow_volume.specs.Parts.{copied_for, AreTied, AreOfImages, images_of}
+use Rattle.cow_volume.proofs.Following.{get_map}
+use Rattle.cow_volume.proofs.Rows.{used_is, copied_for-other, copied_for-is, record_of_row, row_of_record, map-from, has_from_slot, absent_copy, copy_absent}
 use Rattle.cow_volume.proofs.Rows.{newest_has_record, lacks_newest}
 
 -- ## a volume's map
@@ -40,7 +38,7 @@ images_at maps v m at = grind (arith, slice_get-map)
 
 pub found_if : (o : Option ℕ) (copies : List (Option Copied)) (records : List Record) (v set block : ℕ) → copies ≡ map (copied_for v) records → 0 < set → IfSome o (IsFound copies set block)
     → IfSome o (IsFirstCopy records v set block)
-found_if o copies records v set block e some f = grind (arith, found_copy)
+found_if o copies records v set block e some f = grind (arith, record_of_row, row_of_record)
 
 pub within_if : (o : Option ℕ) (records : List Record) (v set block : ℕ) → IfSome o (IsFirstCopy records v set block) → IfSome o (λ slot. slot < length records)
 within_if o records v set block f = grind (arith, slice_get_within)

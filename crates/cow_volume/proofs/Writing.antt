@@ -8,17 +8,15 @@ use Rattle.std.proofs.lemmas.Option.{same_Some, slice_get_within}
 use Rattle.std.proofs.lemmas.List.{take-append-le, drop-append-le, length-drop, length_push, length-map}
 use Rattle.std.proofs.lemmas.List.Folds.{list_any-append}
 use Rattle.std.proofs.lemmas.Bool.{or_cases}
-use Rattle.block_data.specs.Runs.{zeros}
+use Rattle.block_data.specs.BlockBytes.{zeros}
 use Rattle.write_history.specs.History.{Write, Image, History, last_bytes, content, contents, point_in, names, sets_of, written, AreLater, AreInTime}
 use Rattle.write_history.specs.Slots.{writes_since, needs_slot, needs_slot_in}
-use Rattle.volume_device.specs.Blocks.{AreBlocks}
-use Rattle.diff_map.specs.MapValue.{newest}
-use Rattle.diff_area.specs.Places.{table_for, blocks_for, place_of_slot}
-use Rattle.diff_area.specs.Records.{free}
+use Rattle.volume_device.specs.InMemory.{AreBlocks}
+use Rattle.diff_map.specs.Copies.{newest}
+use Rattle.diff_area.specs.Format.{table_for, blocks_for, place_of_slot, free}
 use Rattle.diff_area.specs.declared.table_record.Record.{Record}
-use Rattle.cow_volume.specs.StandsFor.{AreImages, is_named, record_of, told_in, IsVolume, StandsFor}
+use Rattle.cow_volume.specs.StandsFor.{AreImages, is_named, record_of, told_in, IsVolume, StandsFor, GroupValue}
 use Rattle.cow_volume.specs.Changes.{noted}
-use Rattle.cow_volume.specs.GroupValue.{GroupValue}
 use Rattle.cow_volume.specs.Calls.{history_at, changed_at, blocks_at, sets_at}
 use Rattle.cow_volume.proofs.Group.{slice_get-set_same, slice_get-set_other, length-slice_set, slice_get_inside, same_number, other_number, number_is, number_is_other, set_above, named_point}
 use Rattle.cow_volume.proofs.Group.{named_above, OthersKept, SlotsKept, slice_set-same, slice_get_map, others_same, slots_same, told_in-if, told_in-map, told_in-slots, on_one}
@@ -144,23 +142,18 @@ no_image ws (i ∷ images) b none = cc
 pub needs_none : (told slots : Option (List (List ℕ))) (records : List Record) (v n : ℕ) (h : History) (b : ℕ) → IsVolume told slots records v n [] h → needs_slot h.writes h.images b ≡ false
 needs_none told slots records v n h b volume = no_image h.writes h.images b (sym volume.sets_are)
 
--- the newest image does not name a block that a write needs a slot for
-pub unnamed_newest : (told slots : Option (List (List ℕ))) (records : List Record) (v n : ℕ) (sets : List ℕ) (h : History) (m b : ℕ) → IsVolume told slots records v n sets h → IsNewest sets m
-    → needs_slot h.writes h.images b ≡ not (is_named h.writes h.images m b)
-unnamed_newest told slots records v n sets h m b volume last = grind (arith, needs_named)
-
 -- where the newest image has a copy of the block no slot is needed
 pub needs_not : (told slots : Option (List (List ℕ))) (records : List Record) (v n : ℕ) (sets : List ℕ) (h : History) (m b slot : ℕ) → IsVolume told slots records v n sets h → IsNewest sets m
     → slice_get records slot ≡ Some (record_of v m b) → needs_slot h.writes h.images b ≡ false
 needs_not told slots records v n sets h m b slot volume last at =
     let stands = newest_point h.images m (subst (λ (ss : List ℕ). IsNewest ss m) volume.sets_are last) in
-    unnamed_newest told slots records v n sets h m b volume last ∙ ap not (volume.named slot m b (set_above m stands.0 h.images volume.images.above_zero stands.1) at)
+    (grind (arith, needs_named)) ∙ ap not (volume.named slot m b (set_above m stands.0 h.images volume.images.above_zero stands.1) at)
 
 -- where it has none a slot is needed
 pub needs : (told slots : Option (List (List ℕ))) (records : List Record) (v n : ℕ) (sets : List ℕ) (h : History) (b : ℕ) → IsVolume told slots records v n sets h → b < n
     → IsNeeded records v sets b → needs_slot h.writes h.images b ≡ true
 needs told slots records v n sets h b volume l needed =
-    unnamed_newest told slots records v n sets h needed.set b volume needed.newest_is
+    grind (arith, needs_named, needed.newest_is)
     ∙ not_true (is_named h.writes h.images needed.set b) (λ is. let found = volume.recorded needed.set b l is in needed.unnoted found.0 found.1)
 
 -- where a slot is needed an image stands, and the newest has no copy of the block
@@ -182,15 +175,10 @@ named-since : (ws : List Write) (w : Write) (i : Image) (newer : List Image) (b 
     → names (writes_since (ws ++ w ∷ []) i.point newer) b ≡ true
 named-since ws w i newer b time is = grind (arith, names-more, range-more)
 
-named-more_if : (t : Bool) (s s_more n n_more : Bool) → (s ≡ true → s_more ≡ true) → (n ≡ true → n_more ≡ true) → (if t then s else n) ≡ true → (if t then s_more else n_more) ≡ true
-named-more_if t s s_more n n_more here rest is = grind arith
-
 -- what was named is
 pub named-more : (ws : List Write) (w : Write) (images : List Image) (set b : ℕ) → AreInTime (length ws) images → is_named ws images set b ≡ true → is_named (ws ++ w ∷ []) images set b ≡ true
 named-more ws w [] set b time is = cc
-named-more ws w (i ∷ newer) set b time is =
-    named-more_if (i.set == set) (names (writes_since ws i.point newer) b) (names (writes_since (ws ++ w ∷ []) i.point newer) b) (is_named ws newer set b) (is_named (ws ++ w ∷ []) newer set b)
-    (named-since ws w i newer b time) (named-more ws w newer set b time.2) is
+named-more ws w (i ∷ newer) set b time is = grind (arith, named-since ws w i newer b time, named-more ws w newer set b time.2)
 
 -- what is named was, or is the written block for the newest image
 named_was_if : (t : Bool) (ws : List Write) (w : Write) (i : Image) (newer : List Image) (set b : ℕ) → (i.set == set) ≡ t → AreInTime (length ws) (i ∷ newer)

@@ -1,20 +1,28 @@
--- What the calls on a group come to, against the histories that it stands for. (This project's own.)
-use Rattle.std.specs.Prelude.{ℕ, ◌≡◌, ◌<◌, ◌≤◌, Bool, true, false, zero, suc, List, [], ◌∷◌, length, map, Option, Some, None, is_some, slice_get, slice_set, ◌==◌, Result, Ok, Err}
+-- What the calls on a group come to, against the histories that it stands for, and what is said of one that failed. (This project's own.)
+use Rattle.std.specs.Fmt.{decimal}
 use Rattle.std.specs.List.{list_any}
+use Rattle.std.specs.Prelude.{ℕ, ◌≡◌, ◌<◌, ◌≤◌, Bool, true, false, zero, suc, List, [], ◌∷◌, length, map, Option, Some, None, is_some, slice_get, slice_set}
+use Rattle.std.specs.Prelude.{◌==◌, Result, Ok, Err, ◌++◌, codes}
 use Rattle.vss_names.specs.Faults.{Rose, most}
 use Rattle.volume_device.specs.declared.device.Device.{Ghosts}
 use Rattle.write_history.specs.History.{History, Write, content, point_in, fresh, written, dropped, reverted, reverted_in_part, to_restore}
 use Rattle.write_history.specs.Slots.{gone_up_to, evicted_up_to}
+use Rattle.cow_volume.specs.StandsFor.{GroupValue, placed, StandsFor}
 use Rattle.cow_volume.specs.declared.cause.Cause.{Cause}
 use Rattle.cow_volume.specs.declared.cause.Cause.TheVariants.{NoSuchBlock, Volume, Area}
-use Rattle.cow_volume.specs.declared.written.Written.{Written}
-use Rattle.cow_volume.specs.declared.write_fault.WriteFault.{WriteFault}
+use Rattle.cow_volume.specs.declared.cause.Cause.TheVariants as cause
 use Rattle.cow_volume.specs.declared.image_fault.ImageFault.{ImageFault}
 use Rattle.cow_volume.specs.declared.image_fault.ImageFault.TheVariants.{NoSuchImage, NoSuchBlock as NoBlock, Volume as VolumeFailed, Area as AreaFailed}
+use Rattle.cow_volume.specs.declared.image_fault.ImageFault.TheVariants as image
+use Rattle.cow_volume.specs.declared.resume_fault.ResumeFault.{ResumeFault}
+use Rattle.cow_volume.specs.declared.resume_fault.ResumeFault.TheVariants as resume
 use Rattle.cow_volume.specs.declared.revert_fault.RevertFault.{RevertFault}
 use Rattle.cow_volume.specs.declared.revert_fault.RevertFault.TheVariants.{NoSuchImage as NoImage, Fault}
-use Rattle.cow_volume.specs.GroupValue.{GroupValue, placed}
-use Rattle.cow_volume.specs.StandsFor.{StandsFor}
+use Rattle.cow_volume.specs.declared.revert_fault.RevertFault.TheVariants as revert
+use Rattle.cow_volume.specs.declared.write_fault.WriteFault.{WriteFault}
+use Rattle.cow_volume.specs.declared.written.Written.{Written}
+
+-- ## What the calls on a group come to, against the histories that it stands for. (This project's own.)
 
 -- ## a place in the group
 
@@ -247,3 +255,32 @@ StopsAfter told old v set k (Ok done) = (hs : List History) (p : ℕ) → Stands
     → length (to_restore (blocks_at old v) (history_at hs v).writes p) ≤ k
 StopsAfter told old v set k (Err NoImage) = Unit {0}
 StopsAfter told old v set k (Err (Fault restored cause)) = restored ≡ k
+
+-- ## What is said of a call on a volume that failed. (This project's own.)
+
+abbrev pub cause_message : Cause → List ℕ
+cause_message cause.NoSuchBlock = codes "no such block"
+cause_message cause.Volume = codes "the volume's device failed"
+cause_message cause.Area = codes "the diff area's device failed"
+
+abbrev pub image_message : ImageFault → List ℕ
+image_message image.NoSuchImage = codes "no such image"
+image_message image.NoSuchBlock = codes "no such block"
+image_message image.Volume = codes "the volume's device failed"
+image_message image.Area = codes "the diff area's device failed"
+
+-- which images went, if any
+abbrev pub evicted_message : ℕ → List ℕ
+evicted_message zero = codes ""
+evicted_message (suc set) = codes ", and images up to set " ++ (decimal (suc set) ++ codes " went")
+
+abbrev pub write_message : WriteFault → List ℕ
+write_message fault = cause_message fault.cause ++ evicted_message fault.evicted_up_to
+
+abbrev pub revert_message : RevertFault → List ℕ
+revert_message revert.NoSuchImage = codes "no such image"
+revert_message (revert.Fault restored why) = cause_message why ++ (codes ", after " ++ (decimal restored ++ codes " blocks were restored"))
+
+abbrev pub resume_message : ResumeFault → List ℕ
+resume_message (resume.NoImage slot set) = codes "slot " ++ (decimal slot ++ (codes " is of set " ++ (decimal set ++ codes ", which has no image")))
+resume_message resume.OutOfMemory = codes "out of memory"

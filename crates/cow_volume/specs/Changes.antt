@@ -1,10 +1,14 @@
--- What becomes of the records of a group's slots where a block is copied or an image goes. (That the oldest images go
--- first where no slot is left is the Volume Shadow Copy Service's; the rules for the copies are this project's own.)
-use Rattle.std.specs.Prelude.{ℕ, ◌≡◌, ◌≤◌, Bool, List, map, ◌==◌, ◌&&◌, nat_lt, nat_le, if◌then◌else◌, Option, Some, None, slice_get, slice_set}
+-- What becomes of the records of a group's slots where a block is copied or an image goes, how many are used, and how they follow a map.
 use Rattle.std.specs.List.{list_any}
-use Rattle.diff_area.specs.Records.{free}
+use Rattle.std.specs.Prelude.{ℕ, ◌≡◌, ◌≤◌, Bool, List, map, ◌==◌, ◌&&◌, nat_lt, nat_le, if◌then◌else◌, Option, Some, None, slice_get, slice_set, count_by, []}
+use Rattle.std.specs.Prelude.{◌∷◌}
+use Rattle.diff_map.specs.declared.copied.Copied.{Copied}
+use Rattle.diff_area.specs.Format.{free}
 use Rattle.diff_area.specs.declared.table_record.Record.{Record}
 use Rattle.cow_volume.specs.StandsFor.{record_of}
+
+-- ## What becomes of the records of a group's slots where a block is copied or an image goes. (That the oldest images go
+-- first where no slot is left is the Volume Shadow Copy Service's; the rules for the copies are this project's own.)
 
 -- ## a copy more
 
@@ -78,3 +82,33 @@ gone_row up_to r = if nat_le r.set up_to then free else r
 
 abbrev pub gone_to : ℕ → List Record → List Record
 gone_to up_to records = map (gone_row up_to) records
+
+-- ## How many slots a volume's images use, by the records. (This project's own.)
+
+-- the record is of a copy of volume v
+abbrev pub is_on : ℕ → Record → Bool
+is_on v r = (r.volume == v) && nat_lt 0 r.set
+
+-- how many records are
+abbrev pub count_on : ℕ → List Record → ℕ
+count_on v records = count_by (is_on v) records
+
+-- how many are of the image of a set on volume v
+abbrev pub count_of : ℕ → ℕ → List Record → ℕ
+count_of v set records = count_by (is_of v set) records
+
+-- ## How the records of a volume follow its map: each record of the volume becomes that of the copy for which the map notes the slot
+-- now, or free. (This project's own.)
+
+abbrev pub record_for : ℕ → Option Copied → Record
+record_for v None = free
+record_for v (Some copied) = record_of v copied.set copied.block
+
+abbrev pub followed_row : ℕ → Option Copied → Record → Record
+followed_row v copied r = if nat_lt 0 r.set && (r.volume == v) then record_for v copied else r
+
+-- the records of the first slots follow these rows of the map
+abbrev pub followed : ℕ → List (Option Copied) → List Record → List Record
+followed v [] records = records
+followed v (copied ∷ copies) [] = []
+followed v (copied ∷ copies) (r ∷ rs) = followed_row v copied r ∷ followed v copies rs

@@ -4,12 +4,10 @@ use Rattle.std.specs.Prelude.{ℕ, ◌≡◌, true, List, Option, Some, is_some,
 use Rattle.std.specs.List.{concat}
 use Rattle.write_history.specs.History.{History}
 use Rattle.write_history.specs.Slots.{copies}
-use Rattle.diff_area.specs.AreaValue.{AreInPart, with_first}
+use Rattle.diff_area.specs.AreaValue.{AreInPart, with_first, table_blocks}
 use Rattle.diff_area.specs.Copies.{AreStored}
 use Rattle.diff_area.specs.Loading.{IsReadFrom}
-use Rattle.diff_area.specs.Written.{table_blocks}
-use Rattle.cow_volume.specs.GroupValue.{GroupValue, placed}
-use Rattle.cow_volume.specs.StandsFor.{StandsFor}
+use Rattle.cow_volume.specs.StandsFor.{GroupValue, placed, StandsFor}
 use Rattle.cow_volume.specs.Calls.{IsKept, IsUnfailed, AreaRose}
 use Rattle.cow_volume.specs.declared.cause.Cause.{Cause}
 use Rattle.cow_volume.specs.declared.cause.Cause.TheVariants.{Area}

@@ -5,10 +5,9 @@ use Rattle.std.specs.List.{list_all}
 use Rattle.write_history.specs.History.{History, Write, content, point_in, written, dropped, reverted, reverted_in_part, to_restore, after_set}
 use Rattle.write_history.specs.Slots.{Copy, evicted_up_to, copies_of}
 use Rattle.diff_area.specs.Copies.{AreStored}
-use Rattle.cow_volume.specs.GroupValue.{GroupValue, placed}
-use Rattle.cow_volume.specs.StandsFor.{StandsFor}
+use Rattle.cow_volume.specs.StandsFor.{GroupValue, placed, StandsFor}
 use Rattle.cow_volume.specs.Calls.{HasCauseAt, HasImageCause, IsKept, IsUnfailed, DeviceRose, AreaRose, is_among, blocks_at, sets_at}
-use Rattle.cow_volume.specs.CopiedOnce.{IsCopiedOnce}
+use Rattle.cow_volume.specs.CopiesAfter.{IsCopiedOnce}
 use Rattle.cow_volume.specs.Ending.{IsSynced}
 use Rattle.cow_volume.specs.Parts.{IsLentBy}
 use Rattle.cow_volume.specs.declared.cause.Cause.{Cause}

@@ -2,13 +2,11 @@
 -- these go at once; where a device fails, the newer images are merged down. What each step leaves of the group. (This project's own.)
 use Rattle.std.specs.Prelude.{ℕ, ◌≡◌, ◌<◌, ◌≤◌, Bool, true, false, List, length, filter, nat_le, All, Option, Some, IfSome, slice_get, slice_set, option_map, Result, Ok, Err}
 use Rattle.write_history.specs.History.{History, point_in, up_to_set, to_restore, reverted_in_part}
-use Rattle.diff_area.specs.Places.{place_of_slot}
-use Rattle.cow_volume.specs.GroupValue.{GroupValue}
-use Rattle.cow_volume.specs.StandsFor.{StandsFor}
-use Rattle.cow_volume.specs.Tied.{CopiesValue}
+use Rattle.diff_area.specs.Format.{place_of_slot}
+use Rattle.cow_volume.specs.StandsFor.{GroupValue, StandsFor}
+use Rattle.cow_volume.specs.Parts.{CopiesValue, group_of}
 use Rattle.cow_volume.specs.Changes.{IsFirstCopy, HasNoCopy, cleared}
 use Rattle.cow_volume.specs.CopiesAfter.{images_on, with_records}
-use Rattle.cow_volume.specs.Parts.{group_of}
 use Rattle.cow_volume.specs.Calls.{history_at, changed_at, blocks_at, is_among, IsKept, IsUnfailed, IsQuiet, DeviceRose}
 use Rattle.cow_volume.specs.declared.cause.Cause.{Cause}
 use Rattle.cow_volume.specs.declared.revert_fault.RevertFault.{RevertFault}

@@ -1,17 +1,55 @@
--- When a group is taken up again from its devices, its area and lists of the sets of its images: which records have their image,
--- and what the parts have to hold so that the group stands for histories. (This project's own.)
-use Rattle.std.specs.Prelude.{ℕ, ◌≡◌, ◌<◌, true, false, List, [], ◌∷◌, length, Option, IfSome, is_some, slice_get, Some, None}
+-- When a group is taken up again from its devices, its area and lists of its images, and how maps and pool are made then. (This project's own.)
+use Rattle.std.specs.Prelude.{ℕ, Bool, true, false, zero, suc, ◌≡◌, List, [], ◌∷◌, length, map, Option, Some, None, slice_get, ◌<◌, IfSome, is_some}
 use Rattle.write_history.specs.History.{History, contents, sets_of}
 use Rattle.write_history.specs.Slots.{copies}
+use Rattle.diff_map.specs.Copies.{MapValue, IsMap}
+use Rattle.diff_map.specs.declared.copied.Copied.{Copied}
 use Rattle.diff_area.specs.AreaValue.{AreaValue}
 use Rattle.diff_area.specs.Copies.{AreHeld}
-use Rattle.diff_area.specs.Records.{is_free}
+use Rattle.diff_area.specs.Format.{is_free}
 use Rattle.diff_area.specs.declared.table_record.Record.{Record}
-use Rattle.cow_volume.specs.GroupValue.{placed}
-use Rattle.cow_volume.specs.StandsFor.{AreImages, told_in}
 use Rattle.cow_volume.specs.Calls.{sets_in, is_among}
+use Rattle.cow_volume.specs.StandsFor.{placed, AreImages, told_in}
+use Rattle.cow_volume.specs.Parts.{copied_for}
 use Rattle.cow_volume.specs.declared.resume_fault.ResumeFault.{ResumeFault}
 use Rattle.cow_volume.specs.declared.resume_fault.ResumeFault.TheVariants.{NoImage, OutOfMemory}
+
+-- ## How the maps and the pool are made where a group is taken up again: slot after slot. (This project's own.)
+
+-- the first k members by one rule, and the others by another
+abbrev pub mixed : {X Y : Type 0} → (X → Y) → (X → Y) → ℕ → List X → List Y
+mixed f g zero xs = map g xs
+mixed f g (suc k) [] = []
+mixed f g (suc k) (x ∷ xs) = f x ∷ mixed f g k xs
+
+-- the images of the first so many volumes, and none of the others
+abbrev pub so_far : ℕ → List (List ℕ) → List (List ℕ)
+so_far k images = mixed (λ sets. sets) (λ sets. []) k images
+
+abbrev pub unnoted : Record → Option Copied
+unnoted r = None
+
+-- the map is that of volume v, and notes the slots of the first k records
+pub record IsTakenUp (volumes : List ℕ) (records : List Record) (images : List (List ℕ)) (k v : ℕ) (m : MapValue) : Type 0 where
+  pub blocks : slice_get volumes v ≡ Some m.blocks
+  pub sets : slice_get images v ≡ Some m.images
+  pub copies : m.copies ≡ mixed (copied_for v) unnoted k records
+  pub valid : IsMap m
+
+-- these are the maps of the first so many volumes
+pub record AreTakenUp (volumes : List ℕ) (records : List Record) (images : List (List ℕ)) (k count : ℕ) (maps : List MapValue) : Type 0 where
+  pub number : length maps ≡ count
+  pub each : (v : ℕ) (m : MapValue) → slice_get maps v ≡ Some m → IsTakenUp volumes records images k v m
+
+-- whether a slot is free, where all are, and where none is
+abbrev pub unused : Record → Bool
+unused r = true
+
+abbrev pub used : Record → Bool
+used r = false
+
+-- ## When a group is taken up again from its devices, its area and lists of the sets of its images: which records have their image,
+-- and what the parts have to hold so that the group stands for histories. (This project's own.)
 
 -- ## records and images
 

@@ -5,11 +5,10 @@ use Rattle.std.specs.List.{flat_map, range_with_len}
 use Rattle.write_history.specs.declared.evicted.Evicted.{Evicted}
 use Rattle.write_history.specs.History.{History}
 use Rattle.write_history.specs.Slots.{evicted_of}
-use Rattle.diff_area.specs.Records.{used_in}
+use Rattle.diff_area.specs.Format.{used_in}
 use Rattle.diff_area.specs.declared.table_record.Record.{Record}
-use Rattle.diff_map.specs.MapValue.{newest}
-use Rattle.cow_volume.specs.GroupValue.{GroupValue}
-use Rattle.cow_volume.specs.StandsFor.{StandsFor, record_of}
+use Rattle.diff_map.specs.Copies.{newest}
+use Rattle.cow_volume.specs.StandsFor.{GroupValue, StandsFor, record_of}
 use Rattle.cow_volume.specs.Changes.{has_record, gone_to}
 use Rattle.cow_volume.specs.Calls.{IsEvicted, made_room, is_among, sets_at, sets_in}
 

@@ -1,13 +1,29 @@
--- A group of copy-on-write volumes, and the histories that it stands for, one for each volume. A record stands for each
+-- What a contract sees of a group of volumes over one diff area, and the histories that it stands for, one for each volume.
+use Rattle.std.specs.Prelude.{ℕ, true, List, map, ◌≡◌, ◌<◌, ◌≤◌, Bool, false, [], ◌∷◌, length, ◌==◌, if◌then◌else◌, Option, Some, None, is_some, IfSome}
+use Rattle.std.specs.Prelude.{slice_get, All}
+use Rattle.write_history.specs.History.{Write, Image, History, AreInTime, content, contents, point_in, names, sets_of}
+use Rattle.write_history.specs.Slots.{Placed, writes_since}
+use Rattle.diff_area.specs.AreaValue.{AreaValue}
+use Rattle.diff_area.specs.Format.{place_of_slot}
+use Rattle.diff_area.specs.declared.table_record.Record.{Record}
+
+-- ## What a contract sees of a group of volumes over one diff area: the volumes' devices, the area with the record of each
+-- slot, and for each volume the sets of its images, the oldest first. (This project's own.)
+
+pub record GroupValue (D : Type 0) : Type 0 where
+  -- one for each volume of the group, in order
+  pub devices : List D
+  pub area : AreaValue D
+  pub images : List (List ℕ)
+
+-- the group as the definitions of slots see it: all these volumes, with their numbers of blocks
+abbrev pub placed : List ℕ → List Placed
+placed volumes = map (λ n. record { blocks = n; within = true }) volumes
+
+-- ## A group of copy-on-write volumes, and the histories that it stands for, one for each volume. A record stands for each
 -- block that an image names, and for no other; its slot holds the block as it was at that image's point. (A block is
 -- copied before its first overwrite since the newest cut, as in the Volume Shadow Copy Service; the relation is this
 -- project's own.)
-use Rattle.std.specs.Prelude.{ℕ, ◌≡◌, ◌<◌, ◌≤◌, Bool, true, false, List, [], ◌∷◌, length, ◌==◌, if◌then◌else◌, Option, Some, None, is_some, IfSome, slice_get, All}
-use Rattle.write_history.specs.History.{Write, Image, History, AreInTime, content, contents, point_in, names, sets_of}
-use Rattle.write_history.specs.Slots.{writes_since}
-use Rattle.diff_area.specs.Places.{place_of_slot}
-use Rattle.diff_area.specs.declared.table_record.Record.{Record}
-use Rattle.cow_volume.specs.GroupValue.{GroupValue}
 
 -- ## one volume
 

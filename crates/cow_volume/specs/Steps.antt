@@ -2,14 +2,13 @@
 use Rattle.std.specs.Prelude.{ℕ, ◌≡◌, ◌≤◌, List, length, Option, Some, slice_get, slice_set, option_map, IfSome, Result, Ok, Err}
 use Rattle.vss_names.specs.Faults.{Rose}
 use Rattle.volume_device.specs.declared.device.Device.{Ghosts}
-use Rattle.diff_area.specs.Places.{place_of_slot}
+use Rattle.diff_area.specs.Format.{place_of_slot}
 use Rattle.cow_volume.specs.declared.cause.Cause.{Cause}
 use Rattle.cow_volume.specs.declared.cause.Cause.TheVariants.{NoSuchBlock, Volume, Area}
 use Rattle.write_history.specs.History.{History, Write, written}
-use Rattle.cow_volume.specs.GroupValue.{GroupValue}
-use Rattle.cow_volume.specs.StandsFor.{StandsFor}
+use Rattle.cow_volume.specs.StandsFor.{GroupValue, StandsFor}
 use Rattle.cow_volume.specs.Calls.{IsKept, IsUnfailed, DeviceRose, changed_at}
-use Rattle.cow_volume.specs.Tied.{CopiesValue}
+use Rattle.cow_volume.specs.Parts.{CopiesValue}
 
 -- a device is another state of the same one, and tells this now
 pub record IsOn {D : Type 0} (ghosts : Ghosts D) (old new : D) (now : Option (List (List ℕ))) : Type 0 where

@@ -1,19 +1,16 @@
 ghost use Rattle.std.specs.Prelude.{◌≡◌, ◌<◌, [], true, List, Some, length, replicate, IfOk, slice_get, slice_set, slice_index, map, option_map, is_some, All, Contains, IfSome, IfErr, IsNone, OnOk, OnErr, ◌↔◌};
 ghost use Rattle.vss_names.specs.Faults.{HasCause};
-ghost use Rattle.volume_device.specs.Blocks.{AreBlocks};
+ghost use Rattle.volume_device.specs.InMemory.{AreBlocks};
 ghost use Rattle.write_history.specs.Slots.{Copy};
 ghost use Rattle.slot_pool.specs.Slots.{IsLowestFree};
-ghost use Rattle.diff_map.specs.MapValue.{AreImages, newest};
-ghost use Rattle.diff_area.specs.AreaValue.{AreInPart, KeepsTable, with_first};
+ghost use Rattle.diff_map.specs.Copies.{AreImages, newest};
+ghost use Rattle.diff_area.specs.AreaValue.{AreInPart, KeepsTable, with_first, table_blocks};
 ghost use Rattle.diff_area.specs.Copies.{AreStored, AreHeld};
-ghost use Rattle.diff_area.specs.Places.{blocks_for, place_of_slot};
-ghost use Rattle.diff_area.specs.Records.{AreVolumes, AreRecords, free, is_free, used_in};
-ghost use Rattle.diff_area.specs.Written.{table_blocks};
-ghost use Rattle.cow_volume.specs.Changes.{IsFirstCopy, HasNoCopy};
-ghost use Rattle.cow_volume.specs.Counts.{count_on, count_of};
+ghost use Rattle.diff_area.specs.Format.{blocks_for, place_of_slot, AreVolumes, AreRecords, free, is_free, used_in};
+ghost use Rattle.cow_volume.specs.Changes.{IsFirstCopy, HasNoCopy, count_on, count_of};
 ghost use Rattle.cow_volume.specs.Room.{lacks_copy, lacks_slot, is_full, lesser, IsFirstToFree, IsOldestOn, IsRoomMade};
 ghost use Rattle.cow_volume.specs.Resuming.{AllHaveImages, IsResumeFault};
-ghost use Rattle.cow_volume.specs.Tied.{AreOfImages};
+ghost use Rattle.cow_volume.specs.Parts.{AreOfImages};
 ghost use Rattle.cow_volume.specs.CopiesAfter.{images_on, after_cut, after_note, after_merge, after_clear, after_gone, after_gone_on};
 
 use crate::renewing::{free_copies, merge_copies};
@@ -38,7 +35,7 @@ pub(crate) struct Copies<D: Device> {
 }
 
 impl<D: Device> Model for Copies<D> {
-    ghost use Rattle.cow_volume.specs.Tied.{CopiesValue, AreTied, images_of};
+    ghost use Rattle.cow_volume.specs.Parts.{CopiesValue, AreTied, images_of};
 
     ghost Value = { CopiesValue D };
 

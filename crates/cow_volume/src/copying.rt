@@ -2,7 +2,7 @@
 
 ghost use Rattle.std.specs.Prelude.{◌≡◌, ◌<◌, length};
 ghost use Rattle.cow_volume.specs.Steps.{IsCopy, IsSlotCopy, IsPutOn};
-ghost use Rattle.block_data.specs.PayloadBytes.{payload_bytes};
+ghost use Rattle.block_data.specs.BlockBytes.{payload_bytes};
 
 use crate::cause::Cause;
 use crate::copies::Copies;

@@ -1,21 +1,18 @@
 ghost use Rattle.std.specs.Prelude.{ℕ, ◌≡◌, ◌≢◌, ◌<◌, ◌≤◌, ◌*◌, ◌++◌, ◌∷◌, List, [], true, false, Some, length, replicate, map, slice_get, slice_set, is_some, vec_capacity, All, IfOk, IfErr, IfSome, OnOk};
-ghost use Rattle.block_data.specs.Runs.{zeros};
-ghost use Rattle.block_data.specs.PayloadBytes.{payload_bytes};
+ghost use Rattle.block_data.specs.BlockBytes.{zeros, payload_bytes};
 ghost use Rattle.write_history.specs.History.{History, fresh, cut};
 ghost use Rattle.write_history.specs.Slots.{used, used_by, group_used};
-ghost use Rattle.diff_area.specs.Places.{blocks_for};
-ghost use Rattle.diff_area.specs.Records.{free, used_in, AreRecords, AreVolumes};
-ghost use Rattle.volume_device.specs.Blocks.{AreBlocks};
-ghost use Rattle.diff_map.specs.MapValue.{AreImages};
-ghost use Rattle.cow_volume.specs.GroupValue.{placed};
-ghost use Rattle.cow_volume.specs.StandsFor.{StandsFor};
+ghost use Rattle.diff_area.specs.Format.{blocks_for, free, used_in, AreRecords, AreVolumes};
+ghost use Rattle.volume_device.specs.InMemory.{AreBlocks};
+ghost use Rattle.diff_map.specs.Copies.{AreImages};
+ghost use Rattle.cow_volume.specs.StandsFor.{placed, StandsFor};
 ghost use Rattle.cow_volume.specs.Calls.{HasImageCause, IsSeen, IsQuiet, IsUnfailed, IsWrite, IsDropped, IsRevert, StopsAfter, NeverFails, counted_as, IsEvicted, VolumeRose, history_at, changed_at, is_there, sets_at, blocks_at};
 ghost use Rattle.cow_volume.specs.Parts.{IsLentBy, IsUnseen};
 ghost use Rattle.cow_volume.specs.Ending.{IsSync, IsTable};
 ghost use Rattle.cow_volume.specs.Resuming.{AllHaveImages, IsResumeFault, AreKept, NoneTell};
 ghost use Rattle.cow_volume.specs.Room.{HasRoom, lacks_copy, lacks_slot, is_full, images_going};
 ghost use Rattle.cow_volume.specs.Steps.{IsPutOr};
-ghost use Rattle.cow_volume.specs.CopiedOnce.{IsAreaPut, IsCopiedOnce};
+ghost use Rattle.cow_volume.specs.CopiesAfter.{IsAreaPut, IsCopiedOnce};
 
 use crate::cause::Cause;
 use crate::copies::Copies;
@@ -49,7 +46,7 @@ pub struct CowGroup<D: Device> {
 
 impl<D: Device> Model for CowGroup<D> {
     ghost use Rattle.std.specs.Prelude.{◌≡◌, map};
-    ghost use Rattle.cow_volume.specs.GroupValue.{GroupValue};
+    ghost use Rattle.cow_volume.specs.StandsFor.{GroupValue};
 
     ghost Value = { GroupValue D };
 

@@ -1,10 +1,9 @@
 ghost use Rattle.std.specs.Prelude.{◌≡◌, ◌<◌, ◌≤◌, ◌++◌, ◌∷◌, [], true, Some, length, replicate, slice_get, is_some, All, IfOk, IfErr, IfSome, OnOk};
-ghost use Rattle.block_data.specs.Runs.{zeros};
-ghost use Rattle.block_data.specs.PayloadBytes.{payload_bytes};
+ghost use Rattle.block_data.specs.BlockBytes.{zeros, payload_bytes};
 ghost use Rattle.write_history.specs.History.{History, fresh, cut};
 ghost use Rattle.write_history.specs.Slots.{used, used_by};
-ghost use Rattle.diff_area.specs.Records.{free};
-ghost use Rattle.diff_map.specs.MapValue.{AreImages};
+ghost use Rattle.diff_area.specs.Format.{free};
+ghost use Rattle.diff_map.specs.Copies.{AreImages};
 ghost use Rattle.cow_volume.specs.Ending.{IsSync, IsTable};
 ghost use Rattle.cow_volume.specs.Calls.{IsQuiet, IsUnfailed, VolumeRose, is_among};
 ghost use Rattle.cow_volume.specs.Parts.{IsUnseen};
@@ -34,7 +33,7 @@ pub struct CowVolume<D: Device> {
 
 impl<D: Device> Model for CowVolume<D> {
     ghost use Rattle.std.specs.Prelude.{◌≡◌, length};
-    ghost use Rattle.cow_volume.specs.GroupValue.{GroupValue};
+    ghost use Rattle.cow_volume.specs.StandsFor.{GroupValue};
 
     ghost Value = { GroupValue D };
 

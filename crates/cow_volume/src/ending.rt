@@ -1,9 +1,8 @@
 //! What was written is brought to where it lasts.
 
 ghost use Rattle.std.specs.Prelude.{ℕ, ◌≡◌, ◌≢◌, ◌<◌, List, Some, length, slice_get, IfErr, OnOk};
-ghost use Rattle.cow_volume.specs.Tied.{CopiesValue};
+ghost use Rattle.cow_volume.specs.Parts.{CopiesValue, group_of};
 ghost use Rattle.cow_volume.specs.Calls.{IsQuiet, IsUnfailed, VolumeRose};
-ghost use Rattle.cow_volume.specs.Parts.{group_of};
 ghost use Rattle.cow_volume.specs.Ending.{IsSync, IsTable};
 ghost use Rattle.cow_volume.specs.declared.cause.Cause.TheVariants.{Volume};
 

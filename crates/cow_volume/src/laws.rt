@@ -6,9 +6,8 @@ ghost use Rattle.write_history.specs.Slots.{Copy};
 ghost use Rattle.diff_area.specs.AreaValue.{AreaValue};
 ghost use Rattle.diff_area.specs.Copies.{AreStored, AreHeld};
 ghost use Rattle.cow_volume.specs.Ending.{IsSync, AllTell};
-ghost use Rattle.cow_volume.specs.GroupValue.{GroupValue};
+ghost use Rattle.cow_volume.specs.StandsFor.{GroupValue, StandsFor};
 ghost use Rattle.cow_volume.specs.Resuming.{AreKept};
-ghost use Rattle.cow_volume.specs.StandsFor.{StandsFor};
 
 use crate::cow_group::CowGroup;
 use crate::resume_fault::ResumeFault;

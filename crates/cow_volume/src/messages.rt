@@ -1,7 +1,7 @@
 //! What is said of a call on a volume that failed.
 
 ghost use Rattle.std.specs.Prelude.{Some};
-ghost use Rattle.cow_volume.specs.Messages.{cause_message, image_message, write_message, revert_message, resume_message};
+ghost use Rattle.cow_volume.specs.Calls.{cause_message, image_message, write_message, revert_message, resume_message};
 
 use crate::cause::Cause;
 use crate::image_fault::ImageFault;

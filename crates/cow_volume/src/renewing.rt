@@ -5,11 +5,10 @@ ghost use Rattle.std.specs.List.{AllWithin};
 ghost use Rattle.diff_map.specs.Copies.{AllTaken};
 ghost use Rattle.diff_map.specs.Counts.{used_for};
 ghost use Rattle.diff_map.specs.Groups.{IsOnlyAt, map_at, with_copies};
-ghost use Rattle.diff_map.specs.Leaving.{rule_of};
-ghost use Rattle.diff_map.specs.Rules.{renewed, merged, next_older, GivesBack};
+ghost use Rattle.diff_map.specs.Rules.{rule_of, renewed, merged, next_older, GivesBack};
 ghost use Rattle.cow_volume.specs.CopiesAfter.{with_records};
-ghost use Rattle.cow_volume.specs.Followed.{followed};
-ghost use Rattle.cow_volume.specs.Tied.{copied_for};
+ghost use Rattle.cow_volume.specs.Changes.{followed};
+ghost use Rattle.cow_volume.specs.Parts.{copied_for};
 
 use diff_area::{Area, Record};
 use diff_map::{Going, GroupMap, place_from};

@@ -1,12 +1,11 @@
 //! The maps and the pool of a group, taken up from the records of its area.
 
 ghost use Rattle.std.specs.Prelude.{◌≡◌, ◌<◌, [], false, true, length, map, slice_get, slice_set, All, IfOk, IfErr, OnOk};
-ghost use Rattle.diff_area.specs.Records.{is_free};
+ghost use Rattle.diff_area.specs.Format.{is_free};
 ghost use Rattle.diff_map.specs.Groups.{map_at, with_images};
-ghost use Rattle.diff_map.specs.MapValue.{AreImages};
+ghost use Rattle.diff_map.specs.Copies.{AreImages};
 ghost use Rattle.cow_volume.specs.Calls.{is_among, sets_in};
-ghost use Rattle.cow_volume.specs.Resuming.{HasImage, AllHaveImages, IsResumeFault};
-ghost use Rattle.cow_volume.specs.TakingUp.{AreTakenUp, unused, used};
+ghost use Rattle.cow_volume.specs.Resuming.{HasImage, AllHaveImages, IsResumeFault, AreTakenUp, unused, used};
 
 use crate::resume_fault::ResumeFault;
 use diff_area::{Area, Record};

@@ -5,8 +5,7 @@ ghost use Rattle.write_history.specs.History.{History, dropped};
 ghost use Rattle.cow_volume.specs.StandsFor.{StandsFor};
 ghost use Rattle.cow_volume.specs.Calls.{IsRevert, StopsAfter, NeverFails, counted_as, blocks_at, is_among, changed_at};
 ghost use Rattle.cow_volume.specs.CopiesAfter.{images_on, after_merge};
-ghost use Rattle.cow_volume.specs.Parts.{group_of, blocks_on};
-ghost use Rattle.cow_volume.specs.Tied.{CopiesValue};
+ghost use Rattle.cow_volume.specs.Parts.{group_of, blocks_on, CopiesValue};
 ghost use Rattle.cow_volume.specs.Changes.{IsFirstCopy, HasNoCopy};
 ghost use Rattle.cow_volume.specs.Restoring.{IsMergedTo, IsOneRestored, IsRestoring, KeepsCopies, merged_as};
 

@@ -7,12 +7,11 @@ use Rattle.std.proofs.lemmas.Grind.{common_steps}
 use Rattle.std.proofs.lemmas.Bool.{and_from}
 use Rattle.byteorder.specs.Endian.{little_number}
 use Rattle.byteorder.specs.Numbers.{little_number-reads_back, length-bytes_low_first}
-use Rattle.block_data.specs.Runs.{run_of}
+use Rattle.block_data.specs.BlockBytes.{run_of}
 use Rattle.block_data.specs.declared.block_buf.TheConstants.{BLOCK}
-use Rattle.diff_area.specs.Format.{number_at, layout_in, slots_in, stated_used, volume_count, volumes_from, volumes_in, rest_in, has_magic, is_layout, fits, is_volume_count, is_out_of_range, is_nonzero, HasHeader}
-use Rattle.diff_area.specs.Places.{blocks_for}
-use Rattle.diff_area.specs.Records.{AreVolumes, used_in}
-use Rattle.diff_area.specs.Written.{number_bytes, padded, header_bytes}
+use Rattle.diff_area.specs.Format.{number_at, layout_in, slots_in, stated_used, volume_count, volumes_from, volumes_in, rest_in, has_magic, is_layout, fits}
+use Rattle.diff_area.specs.Format.{is_volume_count, is_out_of_range, is_nonzero, HasHeader, blocks_for, AreVolumes, used_in}
+use Rattle.diff_area.specs.AreaValue.{number_bytes, padded, header_bytes}
 use Rattle.diff_area.specs.declared.table_record.Record.{Record}
 
 -- ## numbers

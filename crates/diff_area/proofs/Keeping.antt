@@ -1,17 +1,37 @@
--- What the calls on an area leave of what its fields keep.
-use Rattle.std.proofs.Common.{ℕ, ◌≡◌, ◌<◌, ◌≤◌, ◌+◌, ◌/◌, Bool, true, false, List, length, take, Option, Some, Result, OnOk, OnErr, slice_get, slice_set, option_map, Vec, vec_capacity, inl, inr, refl, sym, ap, subst, ◌∙◌, arith, lit<}
-use Rattle.std.specs.declared.alloc.Global.{Global}
+-- What the calls on an area leave of what its fields keep; a record that is set changes its own page alone.
+use Rattle.std.proofs.Common.{ℕ, ◌≡◌, ◌≢◌, ◌<◌, ◌≤◌, ◌+◌, ◌-◌, ◌*◌, ◌/◌, List, take, drop, slice_set, inl, inr, ap, arith, Bool, true, false, length, Option}
+use Rattle.std.proofs.Common.{Some, Result, OnOk, OnErr, slice_get, option_map, Vec, vec_capacity, refl, sym, subst, ◌∙◌, lit<}
 use Rattle.std.proofs.lemmas.Bool.{cases_lt}
-use Rattle.std.proofs.lemmas.List.{length-set, length-take-le}
+use Rattle.std.proofs.lemmas.List.{drop-set-lt, drop-set-add, take-set-le, length-set, length-take-le}
+use Rattle.std.specs.List.{flat_map}
+use Rattle.std.specs.declared.alloc.Global.{Global}
 use Rattle.block_data.specs.declared.block_buf.TheConstants.{BLOCK}
-use Rattle.diff_area.specs.AreaValue.{KeepsArea, AreWritten, AreInPart, with_first}
-use Rattle.diff_area.specs.Places.{pages_for, place_of_slot}
-use Rattle.diff_area.specs.Records.{free, AreRecords, IsUsed, IsNarrow, AreNarrow}
-use Rattle.diff_area.specs.Written.{table_blocks}
+use Rattle.diff_area.specs.AreaValue.{KeepsArea, AreWritten, AreInPart, with_first, records_of_page, page_bytes, padded, record_bytes, table_blocks}
+use Rattle.diff_area.specs.Format.{pages_for, place_of_slot, free, AreRecords, IsUsed, IsNarrow, AreNarrow}
 use Rattle.diff_area.specs.declared.table_record.Record.{Record}
-use Rattle.diff_area.proofs.Gets.{get-bound, get-set, get-set_other, get-take, get-with_first-within, get-with_first-past}
-use Rattle.diff_area.proofs.Pages.{other_page}
-use Rattle.diff_area.proofs.TableBlocks.{table-page, length-table}
+use Rattle.diff_area.proofs.ByPlace.{get-bound, get-set, get-set_other, get-take, get-with_first-within, get-with_first-past, table-page, length-table}
+
+-- ## A record that is set changes its own page alone.
+
+before : (n m : ℕ) (rows : List Record) (slot : ℕ) (row : Record) → slot < m → take n (drop m (slice_set rows slot row)) ≡ take n (drop m rows)
+before n m rows slot row h = ap (take n) (drop-set-lt m rows slot row h)
+
+after : (n m : ℕ) (rows : List Record) (slot i : ℕ) (row : Record) → slot ≡ m + i → n ≤ i → take n (drop m (slice_set rows slot row)) ≡ take n (drop m rows)
+after n m rows slot i row e h = grind (arith, drop-set-add, take-set-le)
+
+other_records : (rows : List Record) (slot k : ℕ) (row : Record) → k ≢ slot / 1024 → records_of_page (slice_set rows slot row) k ≡ records_of_page rows k
+unfolding records_of_page
+other_records rows slot k row h =
+    elim (cases_lt slot (1024 * k)) [
+      | inl p ↦ before 1024 (1024 * k) rows slot row p
+      | inr p ↦ after 1024 (1024 * k) rows slot (slot - 1024 * k) row (omega arith) (omega arith)
+    ]
+
+pub other_page : (rows : List Record) (slot k : ℕ) (row : Record) → k ≢ slot / 1024 → page_bytes (slice_set rows slot row) k ≡ page_bytes rows k
+unfolding page_bytes
+other_page rows slot k row h = ap (λ rs. padded (flat_map record_bytes rs)) (other_records rows slot k row h)
+
+-- ## What the calls on an area leave of what its fields keep.
 
 -- what some blocks were before a change
 pub told-before : (told : Option (List (List ℕ))) (f : List (List ℕ) → List (List ℕ)) (blocks : List (List ℕ)) → option_map f told ≡ Some blocks → (before : List (List ℕ)) × (told ≡ Some before) × (blocks ≡ f before)

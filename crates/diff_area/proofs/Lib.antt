@@ -1,14 +1,6 @@
-pub mod Accepting
-pub mod Blocks
-pub mod Doubles
-pub mod FromDevice
-pub mod Gets
+pub mod OnDevice
+pub mod ByPlace
 pub mod GoodRecords
 pub mod HeaderBytes
 pub mod Keeping
-pub mod Pages
-pub mod ReadBlocks
-pub mod Stored
-pub mod TableBlocks
 pub mod TableBytes
-pub mod Valid

@@ -7,17 +7,15 @@ use Rattle.std.proofs.lemmas.List.Folds.{list_any_none}
 use Rattle.std.proofs.lemmas.List.Sums.{count_by-le-length}
 use Rattle.std.proofs.lemmas.Grind.{common_steps}
 use Rattle.std.proofs.lemmas.Bool.{and_from, or_right, false_from_ne_true}
-use Rattle.block_data.specs.Runs.{run_of}
+use Rattle.block_data.specs.BlockBytes.{run_of}
 use Rattle.block_data.specs.declared.block_buf.TheConstants.{BLOCK}
-use Rattle.diff_area.specs.Format.{part, number_at, row_at, row_of, rows_in, has_zeros, is_used, is_same, is_sound, is_good, good_at, row_count}
-use Rattle.diff_area.specs.Places.{pages_for}
-use Rattle.diff_area.specs.Records.{free, is_free, IsUsed, IsNarrow, AreRecords, used_in}
-use Rattle.diff_area.specs.Written.{number_bytes, record_bytes, padded, records_of_page, page_bytes}
+use Rattle.diff_area.specs.Format.{part, number_at, row_at, row_of, rows_in, has_zeros, is_used, is_same, is_sound, is_good, good_at, row_count, pages_for}
+use Rattle.diff_area.specs.Format.{free, is_free, IsUsed, IsNarrow, AreRecords, used_in}
+use Rattle.diff_area.specs.AreaValue.{number_bytes, record_bytes, padded, records_of_page, page_bytes}
 use Rattle.diff_area.specs.declared.table_record.Record.{Record}
 use Rattle.diff_area.proofs.HeaderBytes.{length-number_bytes, number-back}
-use Rattle.diff_area.proofs.Gets.{get-bound}
-use Rattle.diff_area.proofs.GoodRecords.{length-rows_in}
-use Rattle.diff_area.proofs.Valid.{free_is, get_or-rows_in}
+use Rattle.diff_area.proofs.ByPlace.{get-bound}
+use Rattle.diff_area.proofs.GoodRecords.{length-rows_in, free_is, get_or-rows_in}
 
 -- ## one record
 

@@ -6,9 +6,7 @@ use Rattle.std.specs.List.{concat}
 use Rattle.std.specs.List.Sorted.{IsPermutation}
 use Rattle.write_history.specs.Slots.{Copy}
 use Rattle.block_data.specs.declared.block_buf.TheConstants.{BLOCK}
-use Rattle.diff_area.specs.Format.{part, slots_in, header_of, records_of, IsArea}
-use Rattle.diff_area.specs.Places.{place_of_slot}
-use Rattle.diff_area.specs.Records.{is_free}
+use Rattle.diff_area.specs.Format.{part, slots_in, header_of, records_of, IsArea, place_of_slot, is_free}
 use Rattle.diff_area.specs.declared.table_record.Record.{Record}
 
 -- the copies of these records, the first of which is that of this slot, with the bytes of each slot

@@ -1,13 +1,75 @@
--- The format of an area, on its bytes: what a header and a record say, and the conditions under which they are of the
--- format. All numbers have four bytes, the lowest first; bytes that are missing read as zeros. Layout 2 is written;
--- layout 1, which is of one volume, is read too. (This project's own.)
-use Rattle.std.specs.Prelude.{ℕ, ◌≡◌, ◌<◌, ◌+◌, ◌*◌, Bool, true, List, length, take, drop, map, ◌==◌, ◌&&◌, ◌||◌, not, nat_lt, nat_le, nat_eq, if◌then◌else◌, None, codes, slice_index, find}
+-- The format of an area: where its parts stand on its device, its records, and what its bytes say. (This project's own.)
 use Rattle.std.specs.List.{list_any, range_with_len, starts_with}
+use Rattle.std.specs.Prelude.{ℕ, ◌+◌, ◌/◌, ◌≡◌, ◌≢◌, ◌<◌, ◌≤◌, Bool, ◌==◌, ◌&&◌, not, List, length, slice_index, slice_get, Some, All, count_by, ◌*◌, true}
+use Rattle.std.specs.Prelude.{take, drop, map, ◌||◌, nat_lt, nat_le, nat_eq, if◌then◌else◌, None, codes, find}
 use Rattle.byteorder.specs.Endian.{little_number}
 use Rattle.block_data.specs.declared.block_buf.TheConstants.{BLOCK}
-use Rattle.diff_area.specs.Places.{pages_for, blocks_for}
-use Rattle.diff_area.specs.Records.{is_free, used_in}
 use Rattle.diff_area.specs.declared.table_record.Record.{Record}
+
+-- ## Where the parts of an area stand on its device: a header, then the pages of the table, then the slots. A page has
+-- 1,024 records of 16 bytes. (This project's own.)
+
+-- how many pages there are for so many slots
+abbrev pub pages_for : ℕ → ℕ
+pages_for slots = (slots + 1023) / 1024
+
+-- how many blocks the header and the table have
+abbrev pub table_for : ℕ → ℕ
+table_for slots = 1 + pages_for slots
+
+-- how many blocks an area has in all
+abbrev pub blocks_for : ℕ → ℕ
+blocks_for slots = table_for slots + slots
+
+-- the block of a slot, in an area of so many slots
+abbrev pub place_of_slot : ℕ → ℕ → ℕ
+place_of_slot slots slot = table_for slots + slot
+
+-- ## The records of an area's table, one for each slot: for which copy the slot is used, or zeros where it is free.
+-- (This project's own.)
+
+-- the record of a free slot
+abbrev pub free : Record
+free = record { set = 0; block = 0; volume = 0 }
+
+abbrev pub is_free : Record → Bool
+is_free r = (r.set == 0) && (r.block == 0) && (r.volume == 0)
+
+-- how many records are not free
+abbrev pub used_in : List Record → ℕ
+used_in records = count_by (λ r. not (is_free r)) records
+
+-- the numbers of blocks of the volumes of a group
+pub record AreVolumes (volumes : List ℕ) : Type 0 where
+  pub some : 0 < length volumes
+  pub few : length volumes ≤ 128
+  pub each : All (λ blocks. (0 < blocks) × (blocks ≤ 65536)) volumes
+
+-- a record that is not free: of a set, of a volume of the group and of a block of that volume
+pub record IsUsed (volumes : List ℕ) (r : Record) : Type 0 where
+  pub set : 0 < r.set
+  pub volume : r.volume < length volumes
+  pub block : r.block < slice_index volumes r.volume
+
+-- its numbers fit their four bytes
+pub record IsNarrow (r : Record) : Type 0 where
+  pub set : r.set < 4294967296
+  pub block : r.block < 4294967296
+  pub volume : r.volume < 4294967296
+
+abbrev pub AreNarrow : List Record → Type 0
+AreNarrow records = (slot : ℕ) (r : Record) → slice_get records slot ≡ Some r → IsNarrow r
+
+-- the records of an area: each is free or of a block of the group, and no two that are not free are equal
+pub record AreRecords (volumes : List ℕ) (records : List Record) : Type 0 where
+  pub few : length records ≤ 65536
+  pub narrow : AreNarrow records
+  pub each : (slot : ℕ) (r : Record) → slice_get records slot ≡ Some r → r ≢ free → IsUsed volumes r
+  pub once : (slot other : ℕ) (r : Record) → slice_get records slot ≡ Some r → slice_get records other ≡ Some r → r ≢ free → slot ≡ other
+
+-- ## The format of an area, on its bytes: what a header and a record say, and the conditions under which they are of the
+-- format. All numbers have four bytes, the lowest first; bytes that are missing read as zeros. Layout 2 is written;
+-- layout 1, which is of one volume, is read too. (This project's own.)
 
 -- so many bytes from a place on, or as many of them as there are
 unfoldable pub part : ℕ → ℕ → List ℕ → List ℕ

@@ -2,14 +2,5 @@ pub mod AreaValue
 pub mod Copies
 pub mod Format
 pub mod Loading
-pub mod NewTables
-pub mod Places
-pub mod ReadBlocks
-pub mod ReadHeader
 pub mod ReadRows
-pub mod Records
 pub mod Refusals
-pub mod Seen
-pub mod ViewValue
-pub mod Written
-pub mod Messages

@@ -1,12 +1,32 @@
--- What is read of a table. (This project's own.)
-use Rattle.std.specs.Prelude.{ℕ, ◌≡◌, ◌≢◌, ◌<◌, true, false, List, length}
-use Rattle.diff_area.specs.Format.{row_at, row_of, rows_in, is_good, good_at, row_count}
-use Rattle.diff_area.specs.Records.{used_in, AreNarrow}
-use Rattle.diff_area.specs.declared.table_record.Record.{Record}
-use Rattle.diff_area.specs.declared.header.Header.{Header}
-use Rattle.diff_area.specs.declared.header_field.HeaderField.TheVariants.{Used}
+-- What is read of a header and of a table, how equal records are found, and what an `AreaView` keeps. (This project's own.)
+use Rattle.std.specs.BTreeSet.{BTreeSet, contains}
+use Rattle.std.specs.List.{list_any}
+use Rattle.std.specs.Ordering.{nat_cmp, ordering_then}
+use Rattle.std.specs.Prelude.{ℕ, ◌≡◌, List, ◌≢◌, ◌<◌, true, false, length, Bool, [], ◌∷◌, ◌++◌, ◌||◌, not, ◌≤◌, vec_len}
+use Rattle.std.specs.declared.cmp.Ordering.{Ordering}
+use Rattle.diff_area.specs.Format.{layout_in, slots_in, stated_used, volumes_in, HasHeader, row_at, row_of, rows_in, is_good, good_at, row_count, is_same}
+use Rattle.diff_area.specs.Format.{header_of, IsArea, used_in, AreNarrow, is_free}
 use Rattle.diff_area.specs.declared.area_fault.AreaFault.{AreaFault}
 use Rattle.diff_area.specs.declared.area_fault.AreaFault.TheVariants.{Device, BadHeader, BadRecord, OutOfMemory}
+use Rattle.diff_area.specs.declared.header.Header.{Header}
+use Rattle.diff_area.specs.declared.header_field.HeaderField.TheVariants.{Used}
+use Rattle.diff_area.specs.declared.table_record.Record.{Record}
+
+-- ## What is read of a header. (This project's own.)
+
+-- these are the fields of the header
+pub record IsHeaderOf (bytes : List ℕ) (header : Header) : Type 0 where
+  pub layout : header.layout ≡ layout_in bytes
+  pub slots : header.slots ≡ slots_in bytes
+  pub used : header.used ≡ stated_used bytes
+  pub volumes : header.volumes.items ≡ volumes_in bytes
+
+-- and it is of the format
+pub record IsAccepted (size : ℕ) (bytes : List ℕ) (header : Header) : Type 0 where
+  pub fields : IsHeaderOf bytes header
+  pub valid : HasHeader size bytes
+
+-- ## What is read of a table. (This project's own.)
 
 -- the record after these is not good, and says this; or memory was refused
 abbrev pub IsBadRow : Header → List ℕ → List Record → AreaFault → Type 0
@@ -58,3 +78,27 @@ IsTableRefused h table (BadHeader Used found) = IsMiscountedTable h table found
 IsTableRefused h table (BadHeader field found) = ⊥
 IsTableRefused h table (BadRecord slot set block volume) = IsFirstBadRow h table (row_count h.slots) slot (record { set = set; block = block; volume = volume })
 IsTableRefused h table OutOfMemory = Unit {0}
+
+-- ## How equal records are found: the records so far that are not free stand in an ordered set. (This project's own.)
+
+-- by set, then by block, then by volume
+abbrev pub record_cmp : Record → Record → Ordering
+record_cmp a b = ordering_then (nat_cmp a.set b.set) (ordering_then (nat_cmp a.block b.block) (nat_cmp a.volume b.volume))
+
+-- of the records that are not free, the set has those in this list
+abbrev pub IsSeen : BTreeSet Record → List Record → Type 0
+IsSeen seen rows = (r : Record) → is_free r ≡ false → contains record_cmp seen r ≡ list_any (is_same r) rows
+
+-- a record was noted: whether it is free or new, and then it is seen
+pub record IsNoted (old new : BTreeSet Record) (r : Record) (is_new : Bool) : Type 0 where
+  pub answer : (rows : List Record) → IsSeen old rows → is_new ≡ (is_free r || not (list_any (is_same r) rows))
+  pub seen : (rows : List Record) → IsSeen old rows → is_new ≡ true → IsSeen new (rows ++ r ∷ [])
+
+-- ## What an `AreaView` keeps: its bytes are an area, and it knows the fields of the header. A contract sees the bytes
+-- alone. (This project's own.)
+
+pub record IsView (bytes : List ℕ) (header : Header) : Type 0 where
+  pub area : IsArea bytes
+  pub fields : IsHeaderOf (header_of bytes) header
+  pub few : header.slots ≤ 65536
+  pub few_volumes : vec_len header.volumes ≤ 128

@@ -1,13 +1,14 @@
 -- Which refusal bytes get that are no area: that of the first condition that they do not meet, in the order of the
 -- conditions, with what was found there. (This project's own.)
-use Rattle.std.specs.Prelude.{ℕ, ◌≡◌, ◌≢◌, ◌<◌, true, false, List, length, Some, None, find}
-use Rattle.diff_area.specs.Format.{number_at, layout_in, slots_in, stated_used, volume_count, volumes_in, rest_in, has_magic, is_layout, fits, is_volume_count, is_out_of_range, is_nonzero, HasHeader, row_at, row_of, good_in, header_of, table_of, records_of, row_count}
-use Rattle.diff_area.specs.Records.{used_in}
-use Rattle.diff_area.specs.declared.table_record.Record.{Record}
-use Rattle.diff_area.specs.declared.header_field.HeaderField.{HeaderField}
-use Rattle.diff_area.specs.declared.header_field.HeaderField.TheVariants.{Magic, Layout, Slots, Used, Volumes, Blocks, Rest}
+use Rattle.std.specs.Fmt.{decimal}
+use Rattle.std.specs.Prelude.{ℕ, ◌≡◌, ◌≢◌, ◌<◌, true, false, List, length, Some, None, find, ◌++◌, codes}
+use Rattle.diff_area.specs.Format.{number_at, layout_in, slots_in, stated_used, volume_count, volumes_in, rest_in, has_magic, is_layout, fits, is_volume_count}
+use Rattle.diff_area.specs.Format.{is_out_of_range, is_nonzero, HasHeader, row_at, row_of, good_in, header_of, table_of, records_of, row_count, used_in}
 use Rattle.diff_area.specs.declared.area_fault.AreaFault.{AreaFault}
 use Rattle.diff_area.specs.declared.area_fault.AreaFault.TheVariants.{Device, BadHeader, BadRecord, OutOfMemory}
+use Rattle.diff_area.specs.declared.header_field.HeaderField.{HeaderField}
+use Rattle.diff_area.specs.declared.header_field.HeaderField.TheVariants.{Magic, Layout, Slots, Used, Volumes, Blocks, Rest}
+use Rattle.diff_area.specs.declared.table_record.Record.{Record}
 
 -- the field is the first that is not of the format, and this was found there
 abbrev pub IsBadField : ℕ → List ℕ → HeaderField → ℕ → Type 0
@@ -56,3 +57,21 @@ IsRefused bytes (BadHeader field found) = IsBadField (length bytes) (header_of b
 IsRefused bytes (BadRecord slot set block volume) =
     HasHeader (length bytes) (header_of bytes) × IsFirstBad (header_of bytes) (table_of bytes) slot (record { set = set; block = block; volume = volume })
 IsRefused bytes OutOfMemory = Unit {0}
+
+-- ## What is said of a call on an area that failed. (This project's own.)
+
+abbrev pub field_name : HeaderField → List ℕ
+field_name Magic = codes "Magic"
+field_name Layout = codes "Layout"
+field_name Slots = codes "Slots"
+field_name Used = codes "Used"
+field_name Volumes = codes "Volumes"
+field_name Blocks = codes "Blocks"
+field_name Rest = codes "Rest"
+
+abbrev pub message_of : AreaFault → List ℕ
+message_of Device = codes "the device failed"
+message_of (BadHeader field found) = codes "the header has " ++ decimal found ++ codes " in field " ++ field_name field
+message_of (BadRecord slot set block volume) =
+    codes "slot " ++ decimal slot ++ codes " has set " ++ decimal set ++ codes ", block " ++ decimal block ++ codes ", volume " ++ decimal volume
+message_of OutOfMemory = codes "out of memory"

@@ -1,14 +1,11 @@
 ghost use Rattle.std.specs.Prelude.{◌≡◌, true, ◌<◌, ◌≤◌, ℕ, List, Some, length, replicate, slice_get, slice_index, slice_set, option_map, is_some, IfOk, IfErr, IfSome, OnOk, OnErr};
 ghost use Rattle.vss_names.specs.Faults.{HasCause};
-ghost use Rattle.volume_device.specs.Blocks.{AreBlocks};
+ghost use Rattle.volume_device.specs.InMemory.{AreBlocks};
 ghost use Rattle.write_history.specs.Slots.{Copy};
-ghost use Rattle.diff_area.specs.AreaValue.{AreInPart, KeepsTable, with_first};
+ghost use Rattle.diff_area.specs.AreaValue.{AreInPart, KeepsTable, with_first, table_blocks};
 ghost use Rattle.diff_area.specs.Copies.{AreStored, AreHeld};
-ghost use Rattle.diff_area.specs.Loading.{IsLoaded, AreRefused};
-ghost use Rattle.diff_area.specs.Places.{blocks_for, place_of_slot};
-ghost use Rattle.diff_area.specs.ReadBlocks.{IsReadAlone};
-ghost use Rattle.diff_area.specs.Records.{free, AreVolumes, AreRecords, IsUsed};
-ghost use Rattle.diff_area.specs.Written.{table_blocks};
+ghost use Rattle.diff_area.specs.Loading.{IsLoaded, AreRefused, IsReadAlone};
+ghost use Rattle.diff_area.specs.Format.{blocks_for, place_of_slot, free, AreVolumes, AreRecords, IsUsed};
 
 use crate::area_fault::AreaFault;
 use crate::layout::{PAGE_RECORDS, place_of_slot};

@@ -1,7 +1,6 @@
 ghost use Rattle.std.specs.Prelude.{◌≡◌, ◌<◌, ◌≤◌, ◌*◌, length, slice_index, IfOk, IfErr, OnOk, IsErrOf};
 ghost use Rattle.diff_area.specs.Copies.{slot_of};
-ghost use Rattle.diff_area.specs.Format.{part, layout_in, slots_in, volumes_in, header_of, table_of, row_at, IsArea};
-ghost use Rattle.diff_area.specs.Places.{pages_for, blocks_for};
+ghost use Rattle.diff_area.specs.Format.{part, layout_in, slots_in, volumes_in, header_of, table_of, row_at, IsArea, pages_for, blocks_for};
 ghost use Rattle.diff_area.specs.Refusals.{IsRefused};
 
 use crate::area_fault::AreaFault;
@@ -22,7 +21,7 @@ pub struct AreaView<'a> {
 
 impl<'a> Model for AreaView<'a> {
     ghost use Rattle.std.specs.Prelude.{ℕ, List};
-    ghost use Rattle.diff_area.specs.ViewValue.{IsView};
+    ghost use Rattle.diff_area.specs.ReadRows.{IsView};
 
     ghost Value = { List ℕ };
 

@@ -2,9 +2,9 @@
 
 ghost use Rattle.std.specs.Prelude.{◌≡◌, ◌≤◌, ◌+◌, ◌*◌, ◌-◌, ◌++◌, length, vec_len, vec_capacity, codes};
 ghost use Rattle.std.specs.List.{flat_map};
-ghost use Rattle.block_data.specs.Runs.{run_of};
-ghost use Rattle.diff_area.specs.Records.{used_in};
-ghost use Rattle.diff_area.specs.Written.{number_bytes, record_bytes, records_of_page, page_bytes, header_bytes};
+ghost use Rattle.block_data.specs.BlockBytes.{run_of};
+ghost use Rattle.diff_area.specs.Format.{used_in};
+ghost use Rattle.diff_area.specs.AreaValue.{number_bytes, record_bytes, records_of_page, page_bytes, header_bytes};
 
 use crate::layout::{LAYOUT, MAGIC, PAGE_RECORDS};
 use crate::table_record::Record;
@@ -13,7 +13,7 @@ use byteorder::{ByteOrder, LittleEndian};
 use vss_names::{MOST_SLOTS, MOST_VOLUMES};
 
 /// Appends a number's four bytes, for which there is room.
-#[tactic(auto, unfolding(crate::specs::Written::number_bytes))]
+#[tactic(auto, unfolding(crate::specs::AreaValue::number_bytes))]
 fn push_number(page: &mut Vec<u8>, number: u32)
     requires { vec_len page.old + 4 ≤ vec_capacity page.old }
     ensures items { page.new.items ≡ page.old.items ++ number_bytes number }
@@ -26,7 +26,7 @@ fn push_number(page: &mut Vec<u8>, number: u32)
 }
 
 /// Appends a record's bytes, for which there is room.
-#[tactic(auto, unfolding(crate::specs::Written::record_bytes))]
+#[tactic(auto, unfolding(crate::specs::AreaValue::record_bytes))]
 fn push_record(page: &mut Vec<u8>, row: Record)
     requires { vec_len page.old + 16 ≤ vec_capacity page.old }
     ensures items { page.new.items ≡ page.old.items ++ record_bytes row }
@@ -64,7 +64,7 @@ fn push_numbers(page: &mut Vec<u8>, numbers: &[u32])
 }
 
 /// Appends zeros up to this size.
-#[tactic(auto, unfolding(block_data::specs::Runs::run_of))]
+#[tactic(auto, unfolding(block_data::specs::BlockBytes::run_of))]
 fn pad(page: &mut Vec<u8>, size: usize)
     requires within { vec_len page.old ≤ size }
     requires room { size ≤ vec_capacity page.old }
@@ -83,7 +83,7 @@ pub fn used_in(records: &[Record]) -> usize
 }
 
 /// The records of page `k` of the table.
-#[tactic(auto, unfolding(crate::specs::Written::records_of_page), using(std::proofs::lemmas::List::take_min))]
+#[tactic(auto, unfolding(crate::specs::AreaValue::records_of_page), using(std::proofs::lemmas::List::take_min))]
 fn records_of_page(records: &[Record], k: usize) -> &[Record]
     requires { 1024 * k ≤ length records.now }
     ensures rows { result.now ≡ records_of_page records.now k }
@@ -95,7 +95,7 @@ fn records_of_page(records: &[Record], k: usize) -> &[Record]
 }
 
 /// Makes `page` the bytes of page `k` of the table.
-#[tactic(auto, unfolding(crate::specs::Written::page_bytes, crate::specs::Written::padded))]
+#[tactic(auto, unfolding(crate::specs::AreaValue::page_bytes, crate::specs::AreaValue::padded))]
 pub fn fill_page(page: &mut Vec<u8>, records: &[Record], k: usize)
     requires room { BLOCK ≤ vec_capacity page.old }
     requires page { 1024 * k ≤ length records.now }
@@ -109,7 +109,7 @@ pub fn fill_page(page: &mut Vec<u8>, records: &[Record], k: usize)
 }
 
 /// Makes `page` the bytes of the header.
-#[tactic(auto, unfolding(crate::specs::Written::header_bytes, crate::specs::Written::padded))]
+#[tactic(auto, unfolding(crate::specs::AreaValue::header_bytes, crate::specs::AreaValue::padded))]
 pub fn fill_header(page: &mut Vec<u8>, volumes: &[u32], records: &[Record])
     requires room { BLOCK ≤ vec_capacity page.old }
     requires few { length volumes.now ≤ MOST_VOLUMES }

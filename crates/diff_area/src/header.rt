@@ -2,10 +2,9 @@
 
 ghost use Rattle.std.specs.Prelude.{◌≡◌, ◌≤◌, ◌<◌, ◌+◌, ◌*◌, length, vec_len, map, find, IfOk, IfErr, if◌then◌else◌, ◌==◌, take, drop};
 ghost use Rattle.std.specs.List.{range_with_len};
-ghost use Rattle.diff_area.specs.Format.{part, number_at, is_layout, fits, is_volume_count, is_out_of_range, is_nonzero, volume_count, volumes_from, layout_in, volumes_in, rest_in};
+ghost use Rattle.diff_area.specs.Format.{part, number_at, is_layout, fits, is_volume_count, is_out_of_range, is_nonzero, volume_count, volumes_from, layout_in, volumes_in, rest_in, blocks_for};
 ghost use Rattle.diff_area.specs.Refusals.{IsBadHeader};
-ghost use Rattle.diff_area.specs.ReadHeader.{IsHeaderOf, IsAccepted};
-ghost use Rattle.diff_area.specs.Places.{blocks_for};
+ghost use Rattle.diff_area.specs.ReadRows.{IsHeaderOf, IsAccepted};
 
 use crate::area_fault::AreaFault;
 use crate::header_field::HeaderField;

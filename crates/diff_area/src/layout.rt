@@ -1,7 +1,7 @@
 //! Where the parts of an area stand on its device.
 
 ghost use Rattle.std.specs.Prelude.{◌≡◌, ◌<◌, ◌≤◌};
-ghost use Rattle.diff_area.specs.Places.{pages_for, place_of_slot};
+ghost use Rattle.diff_area.specs.Format.{pages_for, place_of_slot};
 
 use vss_names::MOST_SLOTS;
 

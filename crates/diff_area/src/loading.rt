@@ -1,8 +1,7 @@
 //! The tables of an area that stands on a device.
 
 ghost use Rattle.std.specs.Prelude.{◌≡◌, ◌*◌, IfOk, IfErr, OnOk};
-ghost use Rattle.diff_area.specs.Loading.{AreLoaded, AreRefused};
-ghost use Rattle.diff_area.specs.ReadBlocks.{IsReadAlone};
+ghost use Rattle.diff_area.specs.Loading.{AreLoaded, AreRefused, IsReadAlone};
 
 use crate::area_fault::AreaFault;
 use crate::header::{Header, check_header};

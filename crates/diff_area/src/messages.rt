@@ -1,7 +1,7 @@
 //! What is said of a call on an area that failed.
 
 ghost use Rattle.std.specs.Prelude.{Some};
-ghost use Rattle.diff_area.specs.Messages.{field_name, message_of};
+ghost use Rattle.diff_area.specs.Refusals.{field_name, message_of};
 
 use crate::area_fault::AreaFault;
 use crate::header_field::HeaderField;

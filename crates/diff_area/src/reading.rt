@@ -2,7 +2,7 @@
 
 ghost use Rattle.std.specs.Prelude.{◌≡◌, ◌<◌, ◌≤◌, ◌+◌, ◌*◌, ◌^◌, length, slice_get, Some, vec_len, IfOk, IfErr, IfSome, OnOk};
 ghost use Rattle.vss_names.specs.Faults.{HasCause};
-ghost use Rattle.diff_area.specs.ReadBlocks.{IsReadAlone, AreRead, IsReadFault};
+ghost use Rattle.diff_area.specs.Loading.{IsReadAlone, AreRead, IsReadFault};
 
 use crate::area_fault::AreaFault;
 use block_data::BLOCK;

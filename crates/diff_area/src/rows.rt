@@ -1,11 +1,8 @@
 //! The records of a table, and whether they are of the format.
 
 ghost use Rattle.std.specs.Prelude.{◌≡◌, ◌<◌, ◌≤◌, ◌+◌, ◌^◌, ◌*◌, true, [], ◌∷◌, ◌++◌, length, IfOk, IfErr, OnOk};
-ghost use Rattle.diff_area.specs.Format.{row_of, has_zeros, is_used, is_sound, is_good, row_at, row_count};
-ghost use Rattle.diff_area.specs.ReadRows.{IsBadRow, AreGood, AreRefused, IsTable, IsTableRefused};
-ghost use Rattle.diff_area.specs.Places.{pages_for};
-ghost use Rattle.diff_area.specs.Records.{IsNarrow};
-ghost use Rattle.diff_area.specs.Seen.{IsNoted, IsSeen};
+ghost use Rattle.diff_area.specs.Format.{row_of, has_zeros, is_used, is_sound, is_good, row_at, row_count, pages_for, IsNarrow};
+ghost use Rattle.diff_area.specs.ReadRows.{IsBadRow, AreGood, AreRefused, IsTable, IsTableRefused, IsNoted, IsSeen};
 
 use crate::area_fault::AreaFault;
 use crate::encode::used_in;
@@ -59,7 +56,7 @@ fn is_sound(header: &Header, slot: u32, bytes: &[u8]) -> bool
 }
 
 /// Notes a record, and answers whether it is free or no earlier one is equal.
-#[tactic(auto, using(crate::proofs::Doubles::noted))]
+#[tactic(auto, using(crate::proofs::GoodRecords::noted))]
 fn note(seen: &mut BTreeSet<Record>, row: Record) -> Result<bool, OutOfMemory>
     ensures { IfOk result (IsNoted seen.old seen.new row) }
 {

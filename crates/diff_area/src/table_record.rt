@@ -9,7 +9,7 @@ pub struct Record {
 
 impl Record {
     ghost use Rattle.std.specs.Prelude.{◌≡◌, ◌==◌};
-    ghost use Rattle.diff_area.specs.Records.{free, is_free};
+    ghost use Rattle.diff_area.specs.Format.{free, is_free};
 
     /// The record of a free slot.
     pub const FREE: Record = Record {

@@ -15,7 +15,7 @@ pub struct Tables {
 
 impl Tables {
     ghost use Rattle.std.specs.Prelude.{◌≡◌, ◌≤◌, ℕ, true, replicate, vec_len, vec_capacity, IfOk};
-    ghost use Rattle.diff_area.specs.NewTables.{AreNew, AreOfRecords};
+    ghost use Rattle.diff_area.specs.AreaValue.{AreNew, AreOfRecords};
 
     /// The records of so many free slots, none of which is written.
     pub fn of_free_slots(alloc: Global, slots: u32, blocks: &[u32]) -> Result<Tables, OutOfMemory>

@@ -2,10 +2,9 @@
 
 ghost use Rattle.std.specs.Prelude.{◌≡◌, ◌<◌, ◌≤◌, ◌+◌, ◌*◌, Bool, length, slice_get, slice_set, option_map, vec_capacity, IfSome, OnOk, OnErr};
 ghost use Rattle.vss_names.specs.Faults.{HasCause};
-ghost use Rattle.volume_device.specs.Blocks.{AreBlocks};
-ghost use Rattle.diff_area.specs.AreaValue.{AreWritten, AreInPart, with_first};
-ghost use Rattle.diff_area.specs.Places.{blocks_for, pages_for};
-ghost use Rattle.diff_area.specs.Written.{page_bytes, header_bytes, table_blocks};
+ghost use Rattle.volume_device.specs.InMemory.{AreBlocks};
+ghost use Rattle.diff_area.specs.AreaValue.{AreWritten, AreInPart, with_first, page_bytes, header_bytes, table_blocks};
+ghost use Rattle.diff_area.specs.Format.{blocks_for, pages_for};
 
 use crate::encode::{fill_header, fill_page};
 use crate::table_record::Record;

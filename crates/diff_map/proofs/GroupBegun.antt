@@ -9,12 +9,10 @@ use Rattle.std.proofs.lemmas.Grind.{common_steps}
 use Rattle.diff_map.specs.declared.copied.Copied.{Copied}
 use Rattle.diff_map.specs.declared.image_count.ImageCount.{ImageCount}
 use Rattle.diff_map.specs.declared.of_volume.OfVolume.{OfVolume}
-use Rattle.diff_map.specs.Copies.{copied_at, noted_in}
+use Rattle.diff_map.specs.Copies.{copied_at, noted_in, MapValue, AreImages, KeepsImages}
 use Rattle.diff_map.specs.Counts.{IsCounted, KeepsCounts}
-use Rattle.diff_map.specs.Groups.{new_map}
-use Rattle.diff_map.specs.MapValue.{MapValue, AreImages, KeepsImages}
-use Rattle.diff_map.specs.Parts.{Part, part_of, map_of, AreParts, KeepsVolume, KeepsGroup, IsEmpty}
-use Rattle.diff_map.proofs.Parts.{own_none}
+use Rattle.diff_map.specs.Groups.{new_map, Part, part_of, map_of, AreParts, KeepsVolume, KeepsGroup, IsEmpty}
+use Rattle.diff_map.proofs.Grouped.{own_none}
 
 abbrev none_of : ℕ → List (Option Copied)
 none_of slots = replicate slots None

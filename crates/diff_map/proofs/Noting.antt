@@ -1,21 +1,34 @@
--- A slot that is noted for a block of the newest image: its entry goes in at its place, and there is room for it.
-use Rattle.std.proofs.Common.{ℕ, suc, ◌≡◌, ◌≢◌, ◌+◌, ◌-◌, ◌<◌, ◌≤◌, ◌^◌, inl, inr, true, false, eqb, List, ◌∷◌, length, get_or, set, take, drop, map, Option, Some, None, ap, sym, ◌∙◌, subst, arith}
-use Rattle.std.proofs.Common.{All, Contains}
-use Rattle.std.specs.List.{AllWithin, insert, slice_get, IsDistinct}
+-- The list in order of block and then of set: what a search in it finds, and where the entry of a slot that is noted goes in.
+use Rattle.std.proofs.Common.{ℕ, ◌<◌, ◌≤◌, List, get_or, arith, suc, ◌≡◌, ◌≢◌, ◌+◌, ◌-◌, ◌^◌, inl, inr, true, false, eqb, ◌∷◌, length, set, take, drop, map}
+use Rattle.std.proofs.Common.{Option, Some, None, ap, sym, ◌∙◌, subst, All, Contains}
 use Rattle.std.proofs.lemmas.Bool.{cases_eq, cases_lt}
 use Rattle.std.proofs.lemmas.Bool.Decides.{nat_tests}
 use Rattle.std.proofs.lemmas.List.{length-map, get_or-set_same, get_or-set_other, get_or-map, take-append-drop}
 use Rattle.std.proofs.lemmas.List.Edits.{get_or-insert_below, get_or-insert_at, get_or-insert_above, length-insert}
-use Rattle.std.proofs.lemmas.List.Elements.{All-append, All-cons, All-take, All-drop, All-map, recursion_from_All, Contains-append_cases, Contains-append_left, Contains-append_right}
+use Rattle.std.proofs.lemmas.List.Elements.{All-append, All-cons, All-take, All-drop, All-map, recursion_from_All, Contains-append_cases, Contains-append_left}
+use Rattle.std.proofs.lemmas.List.Elements.{Contains-append_right}
 use Rattle.std.proofs.lemmas.List.Folds.{Any-from_list_any}
 use Rattle.std.proofs.lemmas.Map.Keys.{IsDistinct-cons, IsDistinct-from_apart}
 use Rattle.std.proofs.lemmas.Map.Steps.{length-le_from_distinct_below}
 use Rattle.std.proofs.lemmas.Option.{same_Some, none-some, get_or_from_slice_get, slice_get_within}
+use Rattle.std.specs.List.{AllWithin, insert, slice_get, IsDistinct}
+use Rattle.std.specs.List.Sorted.{IsNonDecreasingBy}
+use Rattle.diff_map.specs.Copies.{copied_at, copy_of, HasCopy}
+use Rattle.diff_map.specs.Links.{place, IsInOrder, place_of, IsIndex, IsNoted}
 use Rattle.diff_map.specs.declared.copied.Copied.{Copied}
 use Rattle.diff_map.specs.declared.entry.Entry.{Entry}
-use Rattle.diff_map.specs.Copies.{copied_at, copy_of, HasCopy}
-use Rattle.diff_map.specs.Index.{place, place_of, IsInOrder, IsIndex, IsNoted}
 use Rattle.diff_map.proofs.Renewal.{slots_apart, get_within}
+
+-- ## The list in order of block and then of set: what a binary search in it finds.
+
+pub rising : (entries : List Entry) → IsInOrder entries → IsNonDecreasingBy place entries
+rising entries order i j d le inside = grind arith
+
+-- an entry of a list that is at or past the place of a search
+pub past_search : (entries : List Entry) (key k n : ℕ) (d : Entry) → AllWithin (λ e. place e < key) entries 0 n → key ≤ place (get_or entries k d) → n ≤ k
+past_search entries key k n d before high = grind arith
+
+-- ## A slot that is noted for a block of the newest image: its entry goes in at its place, and there is room for it.
 
 module _ (entries : List Entry) (copies : List (Option Copied)) (slot image block n : ℕ) (index : IsIndex entries copies) (unnoted : slice_get copies slot ≡ Some None)
     (lacks : HasCopy copies image block → ⊥) (narrow : image < 2 ^ 32) (within : n ≤ length entries) (before : AllWithin (λ e. place e < place_of block image) entries 0 n)

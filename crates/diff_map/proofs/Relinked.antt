@@ -1,11 +1,35 @@
--- A slot gets a copy or loses it, and the link of its block from above leads past it or to it: what the rows keep holds on.
-use Rattle.std.proofs.Common.{ℕ, ◌≡◌, ◌≢◌, ◌<◌, ◌≤◌, ◌^◌, ◌⊎◌, ◌∙◌, inl, inr, List, Option, Some, None, length, set, refl, ap, sym, subst, arith}
-use Rattle.std.proofs.lemmas.Bool.{cases_eq, cases_lt}
-use Rattle.std.proofs.lemmas.List.{get_or-set_same, get_or-set_other, length-set}
+-- What the links of the rows lead to, where a slot gets a copy or loses it: what the rows keep holds on.
+use Rattle.std.proofs.Common.{ℕ, ◌<◌, ◌^◌, List, Some, None, length, get_or, arith, ◌≡◌, ◌≢◌, ◌≤◌, ◌⊎◌, ◌∙◌, inl, inr, Option, set, refl, ap, sym, subst}
+use Rattle.std.proofs.lemmas.Bool.{cases_lt, cases_eq}
+use Rattle.std.proofs.lemmas.List.{get_or_past, get_or-set_same, get_or-set_other, length-set}
 use Rattle.std.proofs.lemmas.Option.{same_Some, none-some}
+use Rattle.diff_map.specs.Links.{row_at, HasBlock, NoneBetween, IsBetween, IsBelow, IsNextAbove, KeepsLinks, LeadsBelow, IsFrom, link_from, set_of}
+use Rattle.diff_map.specs.Links.{newest_after, older_after}
 use Rattle.diff_map.specs.declared.row.Row.{Row}
-use Rattle.diff_map.specs.Links.{row_at, HasBlock, NoneBetween, LeadsBelow, IsBelow, IsFrom, IsNextAbove, KeepsLinks, link_from, set_of, newest_after, older_after}
-use Rattle.diff_map.proofs.Linked.{used_within}
+
+-- ## What the links of the rows of copies lead to.
+
+-- a slot with a copy is one of the rows
+pub used_within : (rows : List Row) (slot : ℕ) → 0 < (row_at rows slot).set → slot < length rows
+used_within rows slot used = grind (arith, cases_lt, get_or_past)
+
+pub older_of : (newest : List ℕ) (rows : List Row) (block at : ℕ) → KeepsLinks newest rows → HasBlock rows block at → IsBelow rows (row_at rows at).older block (row_at rows at).set
+older_of newest rows block at keeps has = keeps.links block (Some at) has
+
+pub newest_of : (newest : List ℕ) (rows : List Row) (block : ℕ) → KeepsLinks newest rows → block < length newest → IsBelow rows (get_or newest block 0) block (2 ^ 32)
+newest_of newest rows block keeps low = keeps.links block None low
+
+-- ## the walk down a chain
+
+pub no_next : (newest : List ℕ) (rows : List Row) (block low : ℕ) → KeepsLinks newest rows → block < length newest → low < 2 ^ 32
+    → (IsBelow rows (get_or newest block 0) block (2 ^ 32) → NoneBetween rows block low (2 ^ 32)) → IsNextAbove rows block low None
+no_next newest rows block low keeps in_range narrow none = record { has = tt; above = narrow; next = none (newest_of newest rows block keeps in_range) }
+
+pub is_next : (newest : List ℕ) (rows : List Row) (block low at : ℕ) → KeepsLinks newest rows → IsBetween rows block low (2 ^ 32) at
+    → (IsBelow rows (row_at rows at).older block (row_at rows at).set → NoneBetween rows block low (row_at rows at).set) → IsNextAbove rows block low (Some at)
+is_next newest rows block low at keeps on none = record { has = on.has; above = on.above; next = none (older_of newest rows block at keeps on.has) }
+
+-- ## A slot gets a copy or loses it, and the link of its block from above leads past it or to it: what the rows keep holds on.
 
 abbrev empty : Row
 empty = record { block = 0; set = 0; older = 0 }

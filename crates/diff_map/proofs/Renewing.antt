@@ -10,17 +10,14 @@ use Rattle.std.proofs.lemmas.Option.{same_Some, none-some}
 use Rattle.diff_map.specs.declared.copied.Copied.{Copied}
 use Rattle.diff_map.specs.declared.going.Going.{Going}
 use Rattle.diff_map.specs.declared.going.Going.TheVariants.{From, UpTo}
-use Rattle.diff_map.specs.Copies.{copied_at, copy_of, AllTaken, HasCopy, has_copy}
+use Rattle.diff_map.specs.Copies.{copied_at, copy_of, AllTaken, HasCopy, has_copy, MapValue, IsMap}
 use Rattle.diff_map.specs.Counts.{used_for, IsPopped}
 use Rattle.diff_map.specs.declared.entry.Entry.{Entry}
-use Rattle.diff_map.specs.MapValue.{MapValue, IsMap}
-use Rattle.diff_map.specs.Rules.{renewed, merged, next_older, GivesBack}
-use Rattle.diff_map.specs.Leaving.{takes, rule_of, IsRenewing}
+use Rattle.diff_map.specs.Rules.{renewed, merged, next_older, GivesBack, takes, rule_of, IsRenewing}
 use Rattle.diff_map.proofs.Counting.{used_some, used_out, used_out_other, used_noted_other}
 use Rattle.diff_map.proofs.Images.{next_older_is}
-use Rattle.diff_map.proofs.Kept.{copied_at-renewed}
-use Rattle.diff_map.proofs.Renewal.{GivesBack-none, GivesBack-free, GivesBack-keep, get_within}
-use Rattle.diff_map.proofs.Ruling.{rule_takes, rule_leaves, rule_gives, row_from_has, has_from_row, merged_goes, merged_moves, merged_stays, merged_nowhere}
+use Rattle.diff_map.proofs.Renewal.{copied_at-renewed, GivesBack-none, GivesBack-free, GivesBack-keep, get_within, rule_takes, rule_leaves, rule_gives}
+use Rattle.diff_map.proofs.Renewal.{row_from_has, has_from_row, merged_goes, merged_moves, merged_stays, merged_nowhere}
 
 pub IsRenewing-none : (rule : Copied → Option Copied) (rows : List (Option Copied)) (pool : List Bool) → IsRenewing rule rows rows pool pool
 IsRenewing-none rule rows pool = record { each = λ slot. inl refl; long = refl; gives = GivesBack-none rows pool }

@@ -6,8 +6,7 @@ use Rattle.std.specs.declared.alloc.Global.{Global}
 use Rattle.diff_map.specs.declared.copied.Copied.{Copied}
 use Rattle.diff_map.specs.declared.entry.Entry.{Entry}
 use Rattle.diff_map.specs.declared.image_count.ImageCount.{ImageCount}
-use Rattle.diff_map.specs.Copies.{copied_at, copy_of}
-use Rattle.diff_map.specs.MapValue.{MapValue}
+use Rattle.diff_map.specs.Copies.{copied_at, copy_of, MapValue}
 
 -- the slot is noted for the image
 abbrev pub is_for : ℕ → Option Copied → Bool

@@ -1,10 +1,5 @@
-pub mod Chains
 pub mod Copies
 pub mod Counts
 pub mod Groups
-pub mod Index
-pub mod Leaving
 pub mod Links
-pub mod MapValue
-pub mod Parts
 pub mod Rules

@@ -1,11 +1,13 @@
 -- What becomes of each copy where an image goes, and of the slots in the pool. A volume's oldest image takes its
 -- copies with it; another image's copies go to the next older image where that one lacks them. (The Volume Shadow
 -- Copy Service deletes the oldest images first; the rules for the copies are this project's own.)
-use Rattle.std.specs.Prelude.{ℕ, ◌≡◌, ◌⊎◌, List, Option, Some, None, Bool, ◌==◌, nat_lt, nat_le, if◌then◌else◌, length, map, slice_get, fold, IsSome, IsNone}
 use Rattle.std.specs.Option.{option_and_then}
-use Rattle.diff_map.specs.declared.copied.Copied.{Copied}
-use Rattle.diff_map.specs.Copies.{copied_at, copy_of, has_copy}
+use Rattle.std.specs.Prelude.{ℕ, ◌≡◌, ◌⊎◌, List, Option, Some, None, Bool, ◌==◌, nat_lt, nat_le, if◌then◌else◌, length, map, slice_get, fold, IsSome, IsNone}
 use Rattle.slot_pool.specs.Slots.{IsFree}
+use Rattle.diff_map.specs.Copies.{copied_at, copy_of, has_copy}
+use Rattle.diff_map.specs.declared.copied.Copied.{Copied}
+use Rattle.diff_map.specs.declared.going.Going.{Going}
+use Rattle.diff_map.specs.declared.going.Going.TheVariants.{Image, From, UpTo}
 
 -- the rows where each copy becomes what the rule gives, or none
 abbrev pub renewed : (Copied → Option Copied) → List (Option Copied) → List (Option Copied)
@@ -41,3 +43,20 @@ pub record GivesBack (before after : List (Option Copied)) (old new : List Bool)
   pub freed : (slot : ℕ) → IsSome (copied_at before slot) → IsNone (copied_at after slot) → IsFree new slot
   pub others : (slot : ℕ) → IsNone (copied_at before slot) ⊎ IsSome (copied_at after slot) → slice_get new slot ≡ slice_get old slot
   pub slots : length new ≡ length old
+
+-- ## Which images' copies go, and how far they have gone. (This project's own.)
+
+abbrev pub takes : Going → ℕ → Bool
+takes (Image image) set = set == image
+takes (From oldest) set = nat_le oldest set
+takes (UpTo newest) set = nat_le set newest
+
+-- the copies that go become none
+abbrev pub rule_of : Going → Copied → Option Copied
+rule_of going copied = if takes going copied.set then None else Some copied
+
+-- each row is as it was, or as the rule has it, and the slots whose rows became none went back
+pub record IsRenewing (rule : Copied → Option Copied) (before after : List (Option Copied)) (old new : List Bool) : Type 0 where
+  pub each : (slot : ℕ) → (copied_at after slot ≡ copied_at before slot) ⊎ (copied_at after slot ≡ option_and_then rule (copied_at before slot))
+  pub long : length after ≡ length before
+  pub gives : GivesBack before after old new

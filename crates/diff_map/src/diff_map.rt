@@ -1,10 +1,7 @@
 ghost use Rattle.std.specs.Prelude.{ℕ, ◌≡◌, ◌≢◌, ◌<◌, ◌≤◌, ◌++◌, ◌∷◌, [], List, Option, Some, None, length, replicate, slice_get, slice_set, slice_index, filter, not, ◌==◌, nat_le, nat_lt, map, drop, All, Contains, IsTrue, IfOk, IfSome, IsNone, ◌↔◌};
-ghost use Rattle.diff_map.specs.MapValue.{AreImages, IsMap, newest};
-ghost use Rattle.diff_map.specs.Copies.{HasCopy, AllTaken, copied_at, copy_of, noted_in};
-ghost use Rattle.diff_map.specs.Chains.{IsFound, IsAbsent, KeepsFinds};
+ghost use Rattle.diff_map.specs.Copies.{AreImages, IsMap, newest, HasCopy, AllTaken, copied_at, copy_of, noted_in, IsFound, IsAbsent, KeepsFinds};
 ghost use Rattle.diff_map.specs.Counts.{IsOldestUsed, IsPopped, used_for};
-ghost use Rattle.diff_map.specs.Leaving.{rule_of};
-ghost use Rattle.diff_map.specs.Rules.{renewed, dropped, cleared, gone, merged, next_older, GivesBack};
+ghost use Rattle.diff_map.specs.Rules.{rule_of, renewed, dropped, cleared, gone, merged, next_older, GivesBack};
 
 use crate::copied::Copied;
 use crate::counts::place_from;
@@ -27,7 +24,7 @@ pub struct DiffMap {
 impl Model for DiffMap {
     ghost use Rattle.std.specs.Prelude.{◌≡◌, length};
     ghost use Rattle.diff_map.specs.Groups.{map_at};
-    ghost use Rattle.diff_map.specs.MapValue.{MapValue};
+    ghost use Rattle.diff_map.specs.Copies.{MapValue};
 
     ghost Value = { MapValue };
 

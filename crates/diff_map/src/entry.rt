@@ -9,7 +9,7 @@ pub struct Entry {
 }
 
 impl Entry {
-    ghost use Rattle.diff_map.specs.Index.{place, place_of};
+    ghost use Rattle.diff_map.specs.Links.{place, place_of};
 
     /// Whether this entry stands before those of this block from this set on, in order of block and then of set.
     pub fn is_before(self, block: u32, set: u32) -> bool

@@ -15,7 +15,7 @@ pub enum Going {
 }
 
 impl Going {
-    ghost use Rattle.diff_map.specs.Leaving.{takes};
+    ghost use Rattle.diff_map.specs.Rules.{takes};
 
     /// Whether the copies for this set go.
     pub fn takes(self, set: u32) -> bool

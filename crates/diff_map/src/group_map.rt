@@ -1,11 +1,9 @@
 //! The maps of the volumes of a group, in one arena: one row for each slot, whichever volume it is noted for.
 
 ghost use Rattle.std.specs.Prelude.{◌≡◌, ◌<◌, ◌≤◌, ◌++◌, ◌∷◌, [], Some, None, length, slice_set, slice_index, filter, not, ◌==◌, nat_le, nat_lt, map, All, Contains, IsTrue, IfOk, IfSome, IsNone, ◌↔◌, ℕ, ◌≢◌, ◌-◌};
-ghost use Rattle.diff_map.specs.Chains.{IsFound, IsAbsent};
-ghost use Rattle.diff_map.specs.Copies.{HasCopy, copied_at, copy_of, noted_in};
+ghost use Rattle.diff_map.specs.Copies.{IsFound, IsAbsent, HasCopy, copied_at, copy_of, noted_in, IsMap, newest};
 ghost use Rattle.diff_map.specs.Counts.{IsOldestUsed, IsPopped, used_for};
 ghost use Rattle.diff_map.specs.Groups.{IsGivenDown, IsHandedDown, IsOnlyAt, IsUnnoted, map_at, new_map, with_images, with_row};
-ghost use Rattle.diff_map.specs.MapValue.{IsMap, newest};
 
 use crate::copied::Copied;
 use crate::counts::{drop_first, first_used, place_after, place_from};
@@ -31,8 +29,8 @@ pub struct GroupMap {
 
 impl Model for GroupMap {
     ghost use Rattle.std.specs.Prelude.{List, map};
-    ghost use Rattle.diff_map.specs.MapValue.{MapValue};
-    ghost use Rattle.diff_map.specs.Parts.{KeepsGroup, map_of};
+    ghost use Rattle.diff_map.specs.Copies.{MapValue};
+    ghost use Rattle.diff_map.specs.Groups.{KeepsGroup, map_of};
 
     ghost Value = { List MapValue };
 

@@ -1,8 +1,7 @@
 //! Which slot holds which block for which set, in chains: one for each block, its copies from the newest on.
 
 ghost use Rattle.std.specs.Prelude.{◌≡◌, ◌<◌, ◌≤◌, ◌^◌, ◌↔◌, Some, None, length, replicate, slice_get, slice_set, IfOk, IfSome, IsNone, IsTrue};
-ghost use Rattle.diff_map.specs.Copies.{HasCopy, copied_at, copy_of};
-ghost use Rattle.diff_map.specs.Chains.{IsFound, IsAbsent};
+ghost use Rattle.diff_map.specs.Copies.{HasCopy, copied_at, copy_of, IsFound, IsAbsent};
 ghost use Rattle.diff_map.specs.Links.{AreLinked, row_at, HasBlock, NoneBetween, IsBetween, IsBelow, IsFrom, IsLowered, IsNextAbove, KeepsLinks, link_from, newest_after, older_after};
 
 use crate::copied::Copied;

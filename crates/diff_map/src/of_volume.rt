@@ -19,7 +19,7 @@ pub struct OfVolume {
 
 impl OfVolume {
     ghost use Rattle.std.specs.Prelude.{Some};
-    ghost use Rattle.diff_map.specs.Parts.{IsEmpty, own, part_of};
+    ghost use Rattle.diff_map.specs.Groups.{IsEmpty, own, part_of};
 
     /// A volume without images. It takes all memory that it ever needs.
     pub fn new(alloc: Global, base: u32, blocks: u32) -> Result<OfVolume, OutOfMemory>

@@ -1,19 +1,120 @@
--- The lines before the lanes: they declare eight volumes and three writers.
-use Rattle.std.proofs.Common.{◌≡◌, ◌∙◌, ℕ, ◌+◌, ◌*◌, ◌<◌, Bool, true, false, List, [], ◌∷◌, ◌++◌, length, map, refl, ap, ap₂, sym, subst, arith, codes}
-use Rattle.std.specs.Prelude.{◌&&◌, not, nat_lt, nat_le, is_some, if◌then◌else◌, Result, Ok, Err}
-use Rattle.generated.proofs.Terms.{range_with_len, nat_tests, length-map, length_push, map_push, map-range_with_len_more, length-range_with_len, Meta}
-use Rattle.generated.proofs.Terms.{metadata_in, Reason, Misplaced, TooMany, Span, WriterPlan, LanePlan, span_from, bytes_of, fields_of, rest_fields, number_in}
-use Rattle.generated.proofs.Terms.{word_of, is_name, place_of, volume_named, writer_named, ◌>>=◌, number_field, SoFar, nothing, name_field, opening_of}
-use Rattle.generated.proofs.Terms.{own_volume_of, volume_of, own_row, has_volume_room, writer_of, described, document_field, writer_if, placed_row_of, row_of}
-use Rattle.generated.proofs.Terms.{has_lane, as_lines, declarations, shape_of, own_shape, system, database, web, both}
+-- The lines before the lanes: they declare eight volumes, and three writers with their documents.
+use Rattle.std.proofs.Common.{◌≡◌, ℕ, true, List, [], Some, Ok, refl, codes, arith, ◌∙◌, ◌+◌, ◌*◌, ◌<◌, Bool, false, ◌∷◌, ◌++◌, length, map, ap, ap₂, sym}
+use Rattle.std.proofs.Common.{subst}
+use Rattle.std.specs.Prelude.{◌&&◌, not, nat_lt, nat_le, is_some, if◌then◌else◌, Result, Err}
+use Rattle.serde_json.proofs.OnLiterals.{serde_json_on_literals}
+use Rattle.serde_json.specs.Read.{read}
+use Rattle.uuid.proofs.OnLiterals.{uuid_on_literals}
+use lib.Utf8.{encode}
+use Rattle.vss_names.specs.ComponentType as kind
+use Rattle.vss_names.specs.Level as level
+use Rattle.vss_names.specs.SourceKind as source
+use Rattle.vss_names.specs.Usage as usage
 use Rattle.writer_meta.specs.Refusal.{Refusal}
 use Rattle.scenario.specs.SoFar.{after}
 use Rattle.scenario.specs.SoFar as saying
-use Rattle.generated.proofs.Words.{is_word, spans_at}
-use Rattle.generated.proofs.Reader.{Says, end_of, head_is, tail_is, Then, line_then, then_line}
 use Rattle.generated.proofs.Meant.{Declared, no_script, AreLanes, Run, IsSaid}
+use Rattle.generated.proofs.Reader.{Says, end_of, head_is, tail_is, Then, line_then, then_line, is_word, spans_at}
 use Rattle.generated.proofs.SetTexts.{volume_name, all_declared, rest_is}
-use Rattle.generated.proofs.Documents.{system_text, database_text, web_text, system_read, database_read, web_read}
+use Rattle.generated.proofs.Terms.{is_utf8, chars, Data, boolean, number, string, array, object, unsigned, no_items, item, no_members, member, Meta, class_in}
+use Rattle.generated.proofs.Terms.{name_in, level_in, usage_in, source_in, freeze_timeout_in, components_in, kind_in, path_in, component_name_in, selectable_in}
+use Rattle.generated.proofs.Terms.{rows_of_part, part_in, parts_in, double_after, list_of_parts, unknown_in, rows_of_meta, meta_in, value_of_text, metadata_in}
+use Rattle.generated.proofs.Terms.{system, database, web, range_with_len, nat_tests, length-map, length_push, map_push, map-range_with_len_more}
+use Rattle.generated.proofs.Terms.{length-range_with_len, Reason, Misplaced, TooMany, Span, WriterPlan, LanePlan, span_from, bytes_of, fields_of, rest_fields}
+use Rattle.generated.proofs.Terms.{number_in, word_of, is_name, place_of, volume_named, writer_named, ◌>>=◌, number_field, SoFar, nothing, name_field}
+use Rattle.generated.proofs.Terms.{opening_of, own_volume_of, volume_of, own_row, has_volume_room, writer_of, described, document_field, writer_if}
+use Rattle.generated.proofs.Terms.{placed_row_of, row_of, has_lane, as_lines, declarations, shape_of, own_shape, both}
+
+-- ## What the documents of the generated scenario's writers say.
+
+-- a document of one component, all whose members but the time-out are said
+abbrev document_data : List ℕ → ℕ → ℕ → List ℕ → ℕ → ℕ → Data
+document_data class part_kind rank name origin use_of = object (
+    member (codes "class") (string class)
+    (member (codes "components") (array (item (object (
+    member (codes "name") (string (codes "main"))
+    (member (codes "path") (string [])
+    (member (codes "selectable") (boolean true)
+    (member (codes "type") (number (unsigned part_kind)) no_members))))) no_items))
+    (member (codes "level") (number (unsigned rank))
+    (member (codes "name") (string name)
+    (member (codes "source") (number (unsigned origin))
+    (member (codes "usage") (number (unsigned use_of)) no_members))))))
+
+metadata_is : (text : List ℕ) (d : Data) (m : Meta) → is_utf8 text ≡ true → read text ≡ Some d → meta_in d ≡ Ok m → metadata_in text ≡ Ok m
+unfolding metadata_in value_of_text
+metadata_is text d m utf8 reads says = grind arith
+
+-- ## the writer `sys`
+
+abbrev pub system_text : List ℕ
+system_text = codes "{\"class\":\"11111111-1111-4111-8111-111111111111\",\"components\":[{\"name\":\"main\",\"path\":\"\",\"selectable\":true,\"type\":2}],\"level\":1,\"name\":\"System\",\"source\":3,\"usage\":2}"
+
+abbrev system_data : Data
+system_data = document_data (codes "11111111-1111-4111-8111-111111111111") 2 1 (codes "System") 3 2
+
+system_is_text : is_utf8 system_text ≡ true
+unfolding is_utf8 chars encode
+system_is_text = refl
+
+system_reads : read system_text ≡ Some system_data
+unfolding serde_json_on_literals
+system_reads = refl
+
+system_says : meta_in system_data ≡ Ok system
+unfolding class_in name_in level_in usage_in source_in freeze_timeout_in components_in kind_in path_in component_name_in selectable_in rows_of_part part_in parts_in double_after list_of_parts unknown_in rows_of_meta meta_in uuid_on_literals level.level_of_number usage.usage_of_number source.source_kind_of_number kind.component_type_of_number
+system_says = refl
+
+pub system_read : metadata_in system_text ≡ Ok system
+system_read = metadata_is system_text system_data system system_is_text system_reads system_says
+
+-- ## the writer `db`
+
+abbrev pub database_text : List ℕ
+database_text = codes "{\"class\":\"22222222-2222-4222-8222-222222222222\",\"components\":[{\"name\":\"main\",\"path\":\"\",\"selectable\":true,\"type\":1}],\"level\":2,\"name\":\"Database\",\"source\":1,\"usage\":3}"
+
+abbrev database_data : Data
+database_data = document_data (codes "22222222-2222-4222-8222-222222222222") 1 2 (codes "Database") 1 3
+
+database_is_text : is_utf8 database_text ≡ true
+unfolding is_utf8 chars encode
+database_is_text = refl
+
+database_reads : read database_text ≡ Some database_data
+unfolding serde_json_on_literals
+database_reads = refl
+
+database_says : meta_in database_data ≡ Ok database
+unfolding class_in name_in level_in usage_in source_in freeze_timeout_in components_in kind_in path_in component_name_in selectable_in rows_of_part part_in parts_in double_after list_of_parts unknown_in rows_of_meta meta_in uuid_on_literals level.level_of_number usage.usage_of_number source.source_kind_of_number kind.component_type_of_number
+database_says = refl
+
+pub database_read : metadata_in database_text ≡ Ok database
+database_read = metadata_is database_text database_data database database_is_text database_reads database_says
+
+-- ## the writer `web`
+
+abbrev pub web_text : List ℕ
+web_text = codes "{\"class\":\"33333333-3333-4333-8333-333333333333\",\"components\":[{\"name\":\"main\",\"path\":\"\",\"selectable\":true,\"type\":2}],\"level\":3,\"name\":\"Web\",\"source\":3,\"usage\":3}"
+
+abbrev web_data : Data
+web_data = document_data (codes "33333333-3333-4333-8333-333333333333") 2 3 (codes "Web") 3 3
+
+web_is_text : is_utf8 web_text ≡ true
+unfolding is_utf8 chars encode
+web_is_text = refl
+
+web_reads : read web_text ≡ Some web_data
+unfolding serde_json_on_literals
+web_reads = refl
+
+web_says : meta_in web_data ≡ Ok web
+unfolding class_in name_in level_in usage_in source_in freeze_timeout_in components_in kind_in path_in component_name_in selectable_in rows_of_part part_in parts_in double_after list_of_parts unknown_in rows_of_meta meta_in uuid_on_literals level.level_of_number usage.usage_of_number source.source_kind_of_number kind.component_type_of_number
+web_says = refl
+
+pub web_read : metadata_in web_text ≡ Ok web
+web_read = metadata_is web_text web_data web web_is_text web_reads web_says
+
+-- ## The lines before the lanes: they declare eight volumes and three writers.
 
 abbrev pub start : Declared
 start = record { volumes = 0; names = []; writers = []; metas = [] }
@@ -45,11 +146,11 @@ opened text rest i = then_line text 115 (codes "cenario") (codes "1" ∷ []) res
       agendas = refl;
     }
 
-    says : (d : SoFar) → d ≡ nothing → (number at : ℕ) → map (bytes_of text) (spans_at at (codes "1" ∷ [])) ≡ codes "1" ∷ []
-        → Says (λ said. IsSaid text start no_run (after d said)) (placed_row_of text d number (end_of at (codes "1" ∷ [])) (word_of (codes "scenario")) (spans_at at (codes "1" ∷ [])))
-    says d same number at parts = record {
+    says : (d : SoFar) → d ≡ nothing → (row_number at : ℕ) → map (bytes_of text) (spans_at at (codes "1" ∷ [])) ≡ codes "1" ∷ []
+        → Says (λ said. IsSaid text start no_run (after d said)) (placed_row_of text d row_number (end_of at (codes "1" ∷ [])) (word_of (codes "scenario")) (spans_at at (codes "1" ∷ [])))
+    says d same row_number at parts = record {
       said = saying.Opening;
-      is = ap (λ (x : SoFar). placed_row_of text x number (end_of at (codes "1" ∷ [])) (word_of (codes "scenario")) (spans_at at (codes "1" ∷ []))) same
+      is = ap (λ (x : SoFar). placed_row_of text x row_number (end_of at (codes "1" ∷ [])) (word_of (codes "scenario")) (spans_at at (codes "1" ∷ []))) same
           ∙ ap (λ (bytes : List ℕ). number_in 1 1 bytes >>= (λ n. Ok saying.Opening)) (head_is _ _ _ _ parts);
       holds = subst (λ x. IsSaid text start no_run (after x saying.Opening)) (sym same) said;
     }
@@ -71,9 +172,9 @@ volume text rest c cs m good named free small i =
     zero_plus : (n : ℕ) → 0 + n ≡ n
     zero_plus n = omega arith
 
-    says : (d : SoFar) → IsSaid text m no_run d → (number at : ℕ) → map (bytes_of text) (spans_at at ((c ∷ cs) ∷ codes "256" ∷ codes "1024" ∷ [])) ≡ (c ∷ cs) ∷ codes "256" ∷ codes "1024" ∷ []
-        → Says (λ said. IsSaid text (with_volume (c ∷ cs) m) no_run (after d said)) (placed_row_of text d number (end_of at ((c ∷ cs) ∷ codes "256" ∷ codes "1024" ∷ [])) (word_of (codes "volume")) (spans_at at ((c ∷ cs) ∷ codes "256" ∷ codes "1024" ∷ [])))
-    says d said number at parts =
+    says : (d : SoFar) → IsSaid text m no_run d → (row_number at : ℕ) → map (bytes_of text) (spans_at at ((c ∷ cs) ∷ codes "256" ∷ codes "1024" ∷ [])) ≡ (c ∷ cs) ∷ codes "256" ∷ codes "1024" ∷ []
+        → Says (λ said. IsSaid text (with_volume (c ∷ cs) m) no_run (after d said)) (placed_row_of text d row_number (end_of at ((c ∷ cs) ∷ codes "256" ∷ codes "1024" ∷ [])) (word_of (codes "volume")) (spans_at at ((c ∷ cs) ∷ codes "256" ∷ codes "1024" ∷ [])))
+    says d said row_number at parts =
         let h = said.declared in
         let first = span_from at (at + length (c ∷ cs)) in
         let second = span_from (at + length (c ∷ cs) + 1) (at + length (c ∷ cs) + 1 + 3) in
@@ -124,9 +225,9 @@ writer text rest c cs document meta m good plain some named free small reads i =
     positive : (n : ℕ) → nat_lt 0 n ≡ true → 0 < n
     positive n e = grind (arith, nat_tests)
 
-    says : (d : SoFar) → IsSaid text m no_run d → (number at : ℕ) → map (bytes_of text) (spans_at at ((c ∷ cs) ∷ document ∷ [])) ≡ (c ∷ cs) ∷ document ∷ []
-        → Says (λ said. IsSaid text (with_writer (c ∷ cs) meta m) no_run (after d said)) (placed_row_of text d number (end_of at ((c ∷ cs) ∷ document ∷ [])) (word_of (codes "writer")) (spans_at at ((c ∷ cs) ∷ document ∷ [])))
-    says d said number at parts =
+    says : (d : SoFar) → IsSaid text m no_run d → (row_number at : ℕ) → map (bytes_of text) (spans_at at ((c ∷ cs) ∷ document ∷ [])) ≡ (c ∷ cs) ∷ document ∷ []
+        → Says (λ said. IsSaid text (with_writer (c ∷ cs) meta m) no_run (after d said)) (placed_row_of text d row_number (end_of at ((c ∷ cs) ∷ document ∷ [])) (word_of (codes "writer")) (spans_at at ((c ∷ cs) ∷ document ∷ [])))
+    says d said row_number at parts =
         let h = said.declared in
         let first = span_from at (at + length (c ∷ cs)) in
         let second = span_from (at + length (c ∷ cs) + 1) (at + length (c ∷ cs) + 1 + length document) in

@@ -1,19 +1,18 @@
 -- How a run of a generated scenario ends.
-use Rattle.std.proofs.Common.{◌≡◌, ℕ, zero, suc, ◌+◌, ◌/◌, ◌<◌, ◌≤◌, List, [], ◌∷◌, ◌++◌, Some, refl, Bool, true, false, ap, sym, ◌∙◌, ◌==◌, subst, length, take, arith, map}
+use Rattle.std.proofs.Common.{◌≡◌, ℕ, zero, suc, ◌+◌, ◌/◌, ◌<◌, ◌≤◌, List, [], ◌∷◌, ◌++◌, Some, refl, Bool, true, false, ap, sym, ◌∙◌, ◌==◌, subst, length, arith, map}
 use Rattle.std.specs.Prelude.{filter, slice_get, nat_lt, if◌then◌else◌}
 use Rattle.generated.proofs.Terms.{list_all, range_with_len, zeros, Move, Write, last_bytes, content, contents, Op, Plan, LaneLine, lines_of, history_of, state}
 use Rattle.generated.proofs.Terms.{run, acts, cursor, is_legal, faults, state-run, moves-run, Asked, IsAsked, AreAsked, four_sets, write_at, volume_at}
 use Rattle.generated.proofs.Terms.{block_at, shape_of, IsGenerated, writes_to, final_bytes, final_blocks}
 use Rattle.vss_model.specs.Trail.{is_complete}
 use Rattle.vss_model.proofs.Headline.{each_line_once}
-use Rattle.generated.proofs.Puts.{put_if, puts_to, puts_in}
-use Rattle.generated.specs.EndsWell.{EndsWell}
-use Rattle.generated.specs.Contents.{write_of}
-use Rattle.generated.proofs.Contents.{no_eviction, is_of, IsApart, run_holds, content_of_owner}
-use Rattle.generated.proofs.Courses.{length_map}
+use Rattle.generated.proofs.Volumes.{put_if, puts_to, puts_in}
+use Rattle.generated.specs.Contents.{EndsWell, write_of}
+use Rattle.generated.proofs.Runs.{no_eviction, is_of, IsApart, run_holds, content_of_owner, smooth_runs}
+use Rattle.generated.proofs.Standing.{length_map}
 use Rattle.generated.proofs.Generated.{generated_smooth, few_lanes, no_lines}
 use Rattle.generated.proofs.Kept.{keeps_images}
-use Rattle.generated.proofs.Runs.{smooth_runs}
+use Rattle.std.proofs.lemmas.List.{take_all}
 
 abbrev pub lane_of : ℕ → ℕ
 lane_of b = b / 16
@@ -96,12 +95,6 @@ unfolding writes_to
 lane_puts n s v zero g l = no_puts_in s v four_sets (lines_of s 0) g.sets
 lane_puts n s v (suc i) g l = puts_are n (suc i) v 0 200 (lines_of s (suc i)) (g.writes i (omega (arith, l)))
 
-take_all : (lines : List LaneLine) (k : ℕ) → k ≡ length lines → take k lines ≡ lines
-take_all [] zero e = refl
-take_all [] (suc k) e = absurd (omega (arith, e))
-take_all (x ∷ lines) zero e = absurd (omega (arith, e))
-take_all (x ∷ lines) (suc k) e = ap (λ xs. x ∷ xs) (take_all lines k (omega (arith, e)))
-
 below_lanes : (b : ℕ) → b < 256 → b / 16 < 16
 below_lanes b l = omega (arith, l)
 
@@ -115,7 +108,7 @@ ends_in_contents n s trail g legal complete clean v b l m =
     let i = lane_of b in
     let once : cursor (run s trail).moves i ≡ length (lines_of s i) = ap (λ (moves : List Move). cursor moves i) (moves-run s trail) ∙ each_line_once s trail legal complete i in
     let own : filter (is_of lane_of i) (history_of (run s trail).state v).writes ≡ writes_to n i v
-    = holds.own v i (omega (arith, count, l)) ∙ ap (puts_in v) (take_all (lines_of s i) (cursor (run s trail).moves i) once) ∙ lane_puts n s v i g (below_lanes b m) in
+    = holds.own v i (omega (arith, count, l)) ∙ ap (puts_in v) (take_all (cursor (run s trail).moves i) (lines_of s i) (omega (arith, once))) ∙ lane_puts n s v i g (below_lanes b m) in
     subst (λ st. content (history_of st v).writes (length (history_of st v).writes) b ≡ final_bytes n v b) (state-run s trail)
     (content_of_owner lane_of b (history_of (run s trail).state v).writes ∙ ap (last_bytes b zeros) own)
 

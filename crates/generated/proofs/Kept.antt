@@ -16,7 +16,7 @@ use Rattle.write_history.specs.History.{cut as history_cut}
 use Rattle.vss_model.specs.Trail.{is_complete as is_complete_trail}
 use Rattle.generated.proofs.Standing.{IsStage, IsPlace, IsAt, IsOnWay}
 use Rattle.generated.proofs.Moves.{below_range, IsReached, orderly_now, IsBefore, on_move, spot_full}
-use Rattle.generated.proofs.Room.{live_within}
+use Rattle.generated.proofs.Ways.{live_within}
 use Rattle.generated.proofs.Runs.{clean_first, way_after, at_start, smooth_runs}
 use Rattle.generated.proofs.Volumes.{made_by, IsGrown, IsGrownIf, move_grown}
 

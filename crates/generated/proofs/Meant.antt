@@ -194,10 +194,7 @@ agendas_with x (l ∷ next ∷ lanes) e =
     omega (arith, more, before, rest)
 
 pub count_new : (l : LanePlan) (lanes : List LanePlan) → l.lines ≡ [] → line_count (lanes ++ l ∷ []) ≡ line_count lanes
-count_new l [] e =
-    let none : length l.lines ≡ 0 = ap length e in
-    let only = lines_cons l [] in
-    omega (arith, none, only)
+count_new l [] e = let none : length l.lines ≡ 0 = ap length e in let only = lines_cons l [] in omega (arith, none, only)
 count_new l (m ∷ lanes) e =
     let more = lines_cons m (lanes ++ l ∷ []) in
     let before = lines_cons m lanes in
@@ -205,10 +202,7 @@ count_new l (m ∷ lanes) e =
     omega (arith, more, before, rest)
 
 pub agendas_new : (l : LanePlan) (lanes : List LanePlan) → l.lines ≡ [] → agenda_count (lanes ++ l ∷ []) ≡ agenda_count lanes
-agendas_new l [] e =
-    let none : agenda_lines l.lines ≡ 0 = ap agenda_lines e in
-    let only = agendas_cons l [] in
-    omega (arith, none, only)
+agendas_new l [] e = let none : agenda_lines l.lines ≡ 0 = ap agenda_lines e in let only = agendas_cons l [] in omega (arith, none, only)
 agendas_new l (m ∷ lanes) e =
     let more = agendas_cons m (lanes ++ l ∷ []) in
     let before = agendas_cons m lanes in

@@ -1,31 +1,50 @@
--- What each move of such a run does to the volumes: a write adds itself to one, a Commit step adds an image, and nothing else
--- changes any. Nothing is evicted.
+-- What each move of such a run does to the volumes: a write adds itself to one, a Commit step adds an image.
 use Rattle.std.proofs.Common.{◌≡◌, ℕ, zero, suc, ◌+◌, ◌<◌, ◌≤◌, List, [], ◌∷◌, ◌++◌, Option, Some, None, refl, Bool, true, false, ap, sym, ◌∙◌, ◌==◌, subst}
 use Rattle.std.proofs.Common.{length, drop, arith}
 use Rattle.std.specs.Prelude.{is_some, filter, slice_get, ◌&&◌, not, if◌then◌else◌, nat_le}
-use Rattle.generated.proofs.Terms.{flat_map, Fill, Stamp, payload_bytes, Order, Ok as SaidOk, Actor, Lane, Writer, Advance, Idle, Mark, Clean, Move, Write}
-use Rattle.generated.proofs.Terms.{History, written as with_write, evicted_of, Scripted, scripted_answer, Group, Cut, is_asking, is_working, open_group, sent}
-use Rattle.generated.proofs.Terms.{change_at, answered as course_answered, stepped as course_stepped, Op, WriteFill, WriteStamp, Plan, LaneLine, lines_of}
-use Rattle.generated.proofs.Terms.{blocks_of, IsOp, target_of, Event, Line, Answer as AnswerEvent, Provider, State, SetRow, in_progress, history_in, history_of}
-use Rattle.generated.proofs.Terms.{left_now, has_image, is_complete, followed, cleared, with_room_if, write, cut_set, image_made, step_made, line, happens}
-use Rattle.generated.proofs.Terms.{next_volume, Commit, as_many_change, each_change, order_of_writer, line_enabled, enabled, after, volumes_losing, evicted_for}
-use Rattle.generated.proofs.Terms.{evicted_at, evicted, Run, cursor, next_line, line_event, answer_event, script_event, event_of, act_of, event_enabled}
-use Rattle.generated.proofs.Terms.{none_can_act, may_move, Asked, IsAsked, AreAsked, Spot, spot_after, completes_sets, is_full, IsSmooth, is_write, and_left}
-use Rattle.generated.proofs.Terms.{and_right}
-use Rattle.writer_calls.specs.declared.answer.Answer.TheVariants.{Ok}
 use Rattle.write_history.specs.History.{cut as history_cut}
-use Rattle.vss_model.proofs.StateForm.{answered, stepped}
-use Rattle.generated.proofs.Sound.{IsSound}
-use Rattle.generated.proofs.Standing.{IsAt}
-use Rattle.generated.proofs.Puts.{put_if, puts_to, puts_of}
-use Rattle.generated.proofs.Courses.{sound_answered, sound_stepped}
-use Rattle.generated.proofs.Known.{IsKnown}
-use Rattle.generated.proofs.Moves.{drop_at, all_at, after_enabled, IsReached, orderly_now, orderly_next, IsBefore, spot_few, no_idle}
-use Rattle.generated.proofs.Requests.{requests}
-use Rattle.generated.proofs.Room.{few_images, none_cleared, no_set_loses}
-use Rattle.generated.proofs.Steps.{followed_volumes}
-use Rattle.generated.proofs.Ways.{runs_of_order, runs_of_step}
+use Rattle.writer_calls.specs.declared.answer.Answer.TheVariants.{Ok}
+use Rattle.scenario.specs.declared.line.Line.{Line as Does}
 use Rattle.vss_model.proofs.CutHistory.{append_none}
+use Rattle.vss_model.proofs.StateForm.{answered, stepped}
+use Rattle.generated.proofs.Standing.{sound_answered, sound_stepped, IsSound, IsAt, followed_volumes}
+use Rattle.generated.proofs.Requests.{IsKnown, requests}
+use Rattle.generated.proofs.Moves.{drop_at, all_at, after_enabled, IsReached, orderly_now, orderly_next, IsBefore, spot_few, no_idle, runs_of_order}
+use Rattle.generated.proofs.Moves.{runs_of_step}
+use Rattle.generated.proofs.Ways.{few_images, none_cleared, no_set_loses}
+use Rattle.generated.proofs.Terms.{flat_map, payload_bytes, Write, Op, Writes, line_of, LaneLine, Event, Line, Fill, Stamp, Order, Ok as SaidOk, Actor, Lane}
+use Rattle.generated.proofs.Terms.{Writer, Advance, Idle, Mark, Clean, Move, History, written as with_write, evicted_of, Scripted, scripted_answer, Group, Cut}
+use Rattle.generated.proofs.Terms.{is_asking, is_working, open_group, sent, change_at, answered as course_answered, stepped as course_stepped, WriteFill}
+use Rattle.generated.proofs.Terms.{WriteStamp, Plan, lines_of, blocks_of, IsOp, target_of, Answer as AnswerEvent, Provider, State, SetRow, in_progress}
+use Rattle.generated.proofs.Terms.{history_in, history_of, left_now, has_image, is_complete, followed, cleared, with_room_if, write, cut_set, image_made}
+use Rattle.generated.proofs.Terms.{step_made, line, happens, next_volume, Commit, as_many_change, each_change, order_of_writer, line_enabled, enabled, after}
+use Rattle.generated.proofs.Terms.{volumes_losing, evicted_for, evicted_at, evicted, Run, cursor, next_line, line_event, answer_event, script_event, event_of}
+use Rattle.generated.proofs.Terms.{act_of, event_enabled, none_can_act, may_move, Asked, IsAsked, AreAsked, Spot, spot_after, completes_sets, is_full, IsSmooth}
+use Rattle.generated.proofs.Terms.{is_write, and_left, and_right}
+
+-- ## The writes that lines make to a volume, in order.
+
+abbrev pub put_if : Bool → Write → List Write
+put_if true w = w ∷ []
+put_if false w = []
+
+abbrev pub puts_by : ℕ → Does → List Write
+puts_by v (Writes u b payload) = put_if (u == v) (record { block = b; bytes = payload_bytes payload })
+puts_by v _ = []
+
+abbrev pub puts_to : ℕ → Op → List Write
+puts_to v op = puts_by v (line_of op)
+
+abbrev pub puts_of : ℕ → Event → List Write
+puts_of v (Line lane op) = puts_to v op
+puts_of v _ = []
+
+-- by these lines, in order
+abbrev pub puts_in : ℕ → List LaneLine → List Write
+puts_in v lines = flat_map (λ l. puts_to v l.op) lines
+
+-- ## What each move of such a run does to the volumes: a write adds itself to one, a Commit step adds an image, and nothing else
+-- changes any. Nothing is evicted.
 
 -- what an event does to the images of a state before its course goes on
 abbrev pub made_by : State → Event → State

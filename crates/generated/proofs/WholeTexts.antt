@@ -1,15 +1,187 @@
 -- The text of the generated scenario of a number reads as a plan that is generated of this number.
-use Rattle.std.proofs.Common.{◌≡◌, ◌∙◌, ℕ, zero, suc, ◌+◌, ◌<◌, List, [], ◌∷◌, ◌++◌, map, Some, None, refl, ap, sym, subst, arith, codes, append_assoc}
-use Rattle.std.specs.Prelude.{slice_get}
+use Rattle.std.proofs.Common.{◌≡◌, ◌∙◌, ℕ, zero, suc, ◌+◌, ◌<◌, List, [], ◌∷◌, ◌++◌, map, Some, None, refl, ap, sym, subst, arith, codes, append_assoc, ◌*◌}
+use Rattle.std.proofs.Common.{◌≤◌, Bool, true, false, length, Option, ap₂, length-append}
+use Rattle.std.specs.Prelude.{slice_get, ◌&&◌, not, nat_lt, is_some, ok_or, if◌then◌else◌, Result, Ok, Err}
 use Rattle.generated.proofs.Terms.{range_with_len, is_name, Plan, LaneLine, lines_of, SoFar, nothing, plan_in, IsScenario, reading_of, as_lines, declarations}
-use Rattle.generated.proofs.Terms.{set_lines, lanes_text, gen_text, one_set, four_sets, writes_of_lane, IsGenerated}
-use Rattle.generated.specs.Reading.{IsRead}
-use Rattle.generated.proofs.Reader.{Then, begins, same_rest, ends}
-use Rattle.generated.proofs.Meant.{Meaning, AreMeant, all_end, LaneMeant, lines_at, lanes_whom, lane_lines, Run, IsSaid, with_meant, with_lane}
-use Rattle.generated.proofs.SetTexts.{all_declared, meaning_of, set_line, are_asked}
-use Rattle.generated.proofs.DeclaredLines.{no_run, declared_lines}
-use Rattle.generated.proofs.WriteLines.{writes_end, writes_are}
-use Rattle.generated.proofs.Lanes.{IsNewLane, free_lane, lane_meant, after_all, writing_lanes}
+use Rattle.generated.proofs.Terms.{set_lines, lanes_text, gen_text, one_set, four_sets, writes_of_lane, IsGenerated, flat_map, bytes_eq, decimal, decimal_digit}
+use Rattle.generated.proofs.Terms.{decimal_step, length-map, map_push, nat_tests, Reason, Misplaced, UnknownName, UnknownWord, Span, span_from, bytes_of}
+use Rattle.generated.proofs.Terms.{fields_of, word_of, place_of, lane_named, writer_named, ◌>>=◌, writer_field, name_field, free_lane_of, acting_lane_of}
+use Rattle.generated.proofs.Terms.{lane_of, lane_if, placed_row_of, row_of, acting, lane_text, writes_text, first_of_both, second_of_both}
+use Rattle.generated.specs.Scenario.{IsRead}
+use Rattle.generated.proofs.Reader.{Then, begins, same_rest, ends, Says, end_of, head_is, tail_is, line_then, then_line, is_word, spans_at}
+use Rattle.generated.proofs.Meant.{Meaning, AreMeant, all_end, LaneMeant, lines_at, lanes_whom, lane_lines, Run, IsSaid, with_meant, with_lane, Declared}
+use Rattle.generated.proofs.Meant.{names_meant, lanes_names, lanes_snoc, count_new, agendas_new, still_declared, into_last}
+use Rattle.generated.proofs.SetTexts.{all_declared, meaning_of, set_line, are_asked, writer_name, HasSpace}
+use Rattle.generated.proofs.DeclaredLines.{no_run, declared_lines, new_name}
+use Rattle.generated.proofs.WriteLines.{writes_end, writes_are, writes_meant, writes_begin_none, write_lines}
+use Rattle.scenario.specs.SoFar.{after}
+use Rattle.scenario.specs.SoFar as saying
+
+-- ## the lanes that write, one after another
+
+-- ## a lane begins
+
+-- a lane of this name is new, and one of at most 64
+pub record IsNewLane (name : List ℕ) (run : Run) : Type 0 where
+  pub word : is_word name ≡ true
+  pub named : is_name name ≡ true
+  pub free : is_some (place_of name (names_meant run.lanes)) ≡ false
+  pub few : nat_lt (length (names_meant run.lanes)) 64 ≡ true
+
+lane_holds : (text : List ℕ) (m : Declared) (run : Run) (d : SoFar) (span : Span) (name : List ℕ) (whom : Option ℕ) → IsSaid text m run d → bytes_of text span ≡ name
+    → IsSaid text m (with_lane name whom run) (after d (saying.Lane span whom))
+lane_holds text m run d span name whom h e = grind (arith, still_declared, lanes_snoc, count_new, agendas_new)
+
+new_lane_is : (text : List ℕ) (m : Declared) (run : Run) (d : SoFar) (span : Span) (name : List ℕ) → IsSaid text m run d → IsNewLane name run → bytes_of text span ≡ name
+    → name_field text (is_some (lane_named text d.lanes (bytes_of text span))) span ≡ Ok span
+unfolding lane_named
+new_lane_is text m run d span name h new e = grind (arith, new_name, lanes_names)
+
+few_lanes : (text : List ℕ) (m : Declared) (run : Run) (d : SoFar) (span : Span) (name : List ℕ) (whom : Option ℕ) → IsSaid text m run d → IsNewLane name run
+    → lane_if d span whom ≡ Ok (saying.Lane span whom)
+few_lanes text m run d span name whom h new = grind (arith, length-map, lanes_names)
+
+pub free_lane : (text rest : List ℕ) (m : Declared) (run : Run) (name : List ℕ) → IsNewLane name run
+    → Then text (line_then (codes "lane" ∷ name ∷ []) rest) (IsSaid text m run) → Then text rest (IsSaid text m (with_lane name None run))
+unfolding word_of row_of free_lane_of
+free_lane text rest m run name new i =
+    then_line text 108 (codes "ane") (name ∷ []) rest (IsSaid text m run) (IsSaid text m (with_lane name None run)) (ap (λ b. b && true) new.word) refl says i
+  where
+    says : (d : SoFar) → IsSaid text m run d → (number at : ℕ) → map (bytes_of text) (spans_at at (name ∷ [])) ≡ name ∷ []
+        → Says (λ said. IsSaid text m (with_lane name None run) (after d said)) (placed_row_of text d number (end_of at (name ∷ [])) (word_of (codes "lane")) (spans_at at (name ∷ [])))
+    says d h number at parts =
+        let span = span_from at (at + length name) in
+        let is = head_is _ _ _ _ parts in
+        record {
+          said = saying.Lane span None;
+          is = ap (λ b. if b then free_lane_of text d span else Err Misplaced) h.declared.opened
+              ∙ ap (λ (r : Result Span Reason). r >>= (λ n. lane_if d n None)) (new_lane_is text m run d span name h new is)
+              ∙ few_lanes text m run d span name None h new;
+          holds = lane_holds text m run d span name None h is;
+        }
+
+acting_lane : (text rest : List ℕ) (run : Run) (name : List ℕ) (w : ℕ) → is_word (writer_name w) ≡ true → place_of (writer_name w) all_declared.writers ≡ Some w → IsNewLane name run
+    → Then text (line_then (codes "lane" ∷ name ∷ codes "as" ∷ writer_name w ∷ []) rest) (IsSaid text all_declared run) → Then text rest (IsSaid text all_declared (with_lane name (Some w) run))
+unfolding word_of row_of acting_lane_of writer_field writer_named
+acting_lane text rest run name w plain found new i =
+    then_line text 108 (codes "ane") (name ∷ codes "as" ∷ writer_name w ∷ []) rest (IsSaid text all_declared run) (IsSaid text all_declared (with_lane name (Some w) run))
+    (ap₂ (λ a b. a && (b && true)) new.word plain) refl says i
+  where
+    says : (d : SoFar) → IsSaid text all_declared run d → (number at : ℕ) → map (bytes_of text) (spans_at at (name ∷ codes "as" ∷ writer_name w ∷ [])) ≡ name ∷ codes "as" ∷ writer_name w ∷ []
+        → Says (λ said. IsSaid text all_declared (with_lane name (Some w) run) (after d said)) (placed_row_of text d number (end_of at (name ∷ codes "as" ∷ writer_name w ∷ [])) (word_of (codes "lane")) (spans_at at (name ∷ codes "as" ∷ writer_name w ∷ [])))
+    says d h number at parts =
+        let span = span_from at (at + length name) in
+        let kind = span_from (at + length name + 1) (at + length name + 1 + 2) in
+        let writer = span_from (at + length name + 1 + 2 + 1) (at + length name + 1 + 2 + 1 + length (writer_name w)) in
+        let is = head_is _ _ _ _ parts in
+        let more = tail_is _ _ _ _ parts in
+        let last = tail_is _ _ _ _ more in
+        record {
+          said = saying.Lane span (Some w);
+          is = ap (λ b. if b then lane_of text d (fields_of (span ∷ kind ∷ writer ∷ [])) else Err Misplaced) h.declared.opened
+              ∙ ap (λ (r : Result Span Reason). r >>= (λ n. if bytes_eq (bytes_of text kind) (codes "as") then (writer_field text d.writers writer >>= (λ x. lane_if d n (Some x))) else Err UnknownWord)) (new_lane_is text all_declared run d span name h new is)
+              ∙ ap (λ (bytes : List ℕ). if bytes_eq bytes (codes "as") then (writer_field text d.writers writer >>= (λ x. lane_if d span (Some x))) else Err UnknownWord) (head_is _ _ _ _ more)
+              ∙ ap₂ (λ (bytes : List ℕ) names. ok_or (place_of bytes names) UnknownName >>= (λ x. lane_if d span (Some x))) (head_is _ _ _ _ last) h.declared.writers
+              ∙ ap (λ (o : Option ℕ). ok_or o UnknownName >>= (λ x. lane_if d span (Some x))) found
+              ∙ few_lanes text all_declared run d span name (Some w) h new;
+          holds = lane_holds text all_declared run d span name (Some w) h is;
+        }
+
+-- ## a lane that writes
+
+-- a number below 20 in decimal digits
+abbrev pub digits_of : ℕ → List ℕ
+digits_of i = if nat_lt i 10 then (48 + i) ∷ [] else 49 ∷ (38 + i) ∷ []
+
+abbrev pub lane_name : ℕ → List ℕ
+lane_name i = 108 ∷ digits_of i
+
+-- as whom lane i acts
+abbrev pub whom_of : ℕ → Option ℕ
+whom_of i = if nat_lt i 4 then Some 2 else if nat_lt i 7 then Some 1 else if nat_lt i 10 then Some 0 else None
+
+decimal_is : (i : ℕ) → i < 16 → decimal i ≡ digits_of i
+decimal_is i l = grind (arith, decimal_digit, decimal_step)
+
+-- the lane that i is, with its writes
+abbrev pub lane_meant : ℕ → ℕ → LaneMeant
+lane_meant n i = record { name = lane_name i; whom = whom_of i; lines = writes_meant n i }
+
+abbrev pub after_lane : ℕ → Run → ℕ → Run
+after_lane n run i = record { lanes = run.lanes ++ lane_meant n i ∷ []; lines = run.lines + 200; agendas = run.agendas }
+
+-- the text of a lane: its name, as whom it acts, and what it writes
+lane_parts : (ds mid writes rest : List ℕ) → (codes "lane l" ++ ds ++ mid ++ codes "\n" ++ writes) ++ rest ≡ codes "lane l" ++ (ds ++ (mid ++ 10 ∷ (writes ++ rest)))
+lane_parts ds mid writes rest = five (codes "lane l") ds mid (codes "\n") writes
+  where
+    five : (a b c d e : List ℕ) → (a ++ b ++ c ++ d ++ e) ++ rest ≡ a ++ (b ++ (c ++ (d ++ (e ++ rest))))
+    five a b c d e = simp append_assoc
+
+acting_text : (ds who rest : List ℕ) → codes "lane l" ++ (ds ++ ((codes " as " ++ who) ++ 10 ∷ rest)) ≡ line_then (codes "lane" ∷ (108 ∷ ds) ∷ codes "as" ∷ who ∷ []) rest
+acting_text ds who rest = ap (λ xs. codes "lane l" ++ xs) (sym (append_assoc ds (codes " as " ++ who) (10 ∷ rest)))
+
+-- a lane begins, whoever it acts as
+lane_begins : (text rest : List ℕ) (run : Run) (i : ℕ) → IsNewLane (lane_name i) run
+    → Then text (codes "lane l" ++ (digits_of i ++ (acting i ++ 10 ∷ rest))) (IsSaid text all_declared run)
+    → Then text rest (IsSaid text all_declared (with_lane (lane_name i) (whom_of i) run))
+lane_begins text rest run i new = by_third (nat_lt i 4) (nat_lt i 7) (nat_lt i 10)
+  where
+    acts : (w : ℕ) → is_word (writer_name w) ≡ true → place_of (writer_name w) all_declared.writers ≡ Some w
+        → Then text (codes "lane l" ++ (digits_of i ++ ((codes " as " ++ writer_name w) ++ 10 ∷ rest))) (IsSaid text all_declared run)
+        → Then text rest (IsSaid text all_declared (with_lane (lane_name i) (Some w) run))
+    acts w plain found t = acting_lane text rest run (lane_name i) w plain found new (same_rest text _ _ (IsSaid text all_declared run) (acting_text (digits_of i) (writer_name w) rest) t)
+
+    by_third : (a b c : Bool)
+        → Then text (codes "lane l" ++ (digits_of i ++ ((if a then codes " as web" else if b then codes " as db" else if c then codes " as sys" else []) ++ 10 ∷ rest))) (IsSaid text all_declared run)
+        → Then text rest (IsSaid text all_declared (with_lane (lane_name i) (if a then Some 2 else if b then Some 1 else if c then Some 0 else None) run))
+    by_third true b c t = acts 2 refl refl t
+    by_third false true c t = acts 1 refl refl t
+    by_third false false true t = acts 0 refl refl t
+    by_third false false false t = free_lane text rest all_declared run (lane_name i) new t
+
+begun_with : (n i : ℕ) (run : Run) → with_meant (writes_meant n i) (with_lane (lane_name i) (whom_of i) run) ≡ after_lane n run i
+begun_with n i run = grind (arith, writes_begin_none, into_last)
+
+writing_lane : (text rest : List ℕ) (run : Run) (n i : ℕ) → i < 16 → IsNewLane (lane_name i) run → HasSpace 200 (with_lane (lane_name i) (whom_of i) run)
+    → Then text (lane_text n i ++ rest) (IsSaid text all_declared run) → Then text rest (IsSaid text all_declared (after_lane n run i))
+writing_lane text rest run n i l new space t =
+    let parts : lane_text n i ++ rest ≡ codes "lane l" ++ (digits_of i ++ (acting i ++ 10 ∷ (writes_text n i ++ rest)))
+    = lane_parts (decimal i) (acting i) (writes_text n i) rest ∙ ap (λ ds. codes "lane l" ++ (ds ++ (acting i ++ 10 ∷ (writes_text n i ++ rest)))) (decimal_is i l) in
+    subst (λ r. Then text rest (IsSaid text all_declared r)) (begun_with n i run)
+    (write_lines text rest (with_lane (lane_name i) (whom_of i) run) n i l space
+    (lane_begins text (writes_text n i ++ rest) run i new (same_rest text (lane_text n i ++ rest) _ (IsSaid text all_declared run) parts t)))
+
+-- ## all of them
+
+-- each of these lanes is new where it begins, behind lanes of these names
+abbrev pub all_new : List ℕ → List (List ℕ) → Bool
+all_new [] names = true
+all_new (i ∷ is) names =
+    (nat_lt i 16 && (is_word (lane_name i) && (is_name (lane_name i) && (not (is_some (place_of (lane_name i) names)) && nat_lt (length names) 64)))) && all_new is (names ++ lane_name i ∷ [])
+
+abbrev pub after_all : ℕ → Run → List ℕ → Run
+after_all n run [] = run
+after_all n run (i ∷ is) = after_all n (after_lane n run i) is
+
+below : (i : ℕ) → nat_lt i 16 ≡ true → i < 16
+below i e = grind (arith, nat_tests)
+
+new_from : (i : ℕ) (run : Run) → (is_word (lane_name i) && (is_name (lane_name i) && (not (is_some (place_of (lane_name i) (names_meant run.lanes))) && nat_lt (length (names_meant run.lanes)) 64))) ≡ true → IsNewLane (lane_name i) run
+new_from i run e = grind arith
+
+space_for : (k : ℕ) (run : Run) (name : List ℕ) (whom : Option ℕ) → run.lines + 200 * suc k ≤ 100000 → run.agendas + 200 ≤ 2000 → HasSpace 200 (with_lane name whom run)
+space_for k run name whom few few_agendas =
+    let len = length-append run.lanes (record { name = name; whom = whom; lines = [] } ∷ []) in
+    record { lane = omega (arith, len); lines = omega (arith, few); agendas = few_agendas }
+
+pub writing_lanes : (text : List ℕ) (n : ℕ) (is : List ℕ) (run : Run) → all_new is (names_meant run.lanes) ≡ true → run.lines + 200 * length is ≤ 100000 → run.agendas + 200 ≤ 2000
+    → Then text (flat_map (lane_text n) is) (IsSaid text all_declared run) → Then text [] (IsSaid text all_declared (after_all n run is))
+writing_lanes text n [] run new few few_agendas t = t
+writing_lanes text n (i ∷ is) run new few few_agendas t =
+    let first = first_of_both _ (all_new is (names_meant run.lanes ++ lane_name i ∷ [])) new in
+    let rest = second_of_both _ (all_new is (names_meant run.lanes ++ lane_name i ∷ [])) new in
+    writing_lanes text n is (after_lane n run i) (ap (all_new is) (map_push (λ (m : LaneMeant). m.name) run.lanes (lane_meant n i)) ∙ rest) (omega (arith, few)) few_agendas
+    (writing_lane text (flat_map (lane_text n) is) run n i (below i (first_of_both (nat_lt i 16) _ first)) (new_from i run (second_of_both (nat_lt i 16) _ first)) (space_for (length is) run (lane_name i) (whom_of i) few few_agendas) t)
 
 -- ## the lane that makes the sets
 
@@ -120,6 +292,4 @@ same_plan : (s t : Plan) → IsScenario s ≡ IsScenario t → s ≡ t
 same_plan s t e = cc
 
 pub all_generated : (n : ℕ) (s : Plan) → reading_of (gen_text n) ≡ IsScenario s → IsGenerated n s
-all_generated n s e =
-    let r = text_read n in
-    subst (IsGenerated n) (same_plan r.plan s (sym r.read ∙ e)) r.generated
+all_generated n s e = let r = text_read n in subst (IsGenerated n) (same_plan r.plan s (sym r.read ∙ e)) r.generated

@@ -3,8 +3,8 @@ use Rattle.std.specs.Prelude.{ℕ, false, List, [], ◌∷◌, ◌++◌, codes}
 use Rattle.write_history.specs.declared.move_item.Move.{Move}
 use Rattle.scenario.specs.declared.op.Op.TheVariants.{Begin, Gather, Component, Start, Add, Prepare, Snapshot, Await, Complete, End}
 use Rattle.scenario.specs.Plan.{Plan}
-use Rattle.generated.specs.Making.{span, volume, group, writer, numbered, lane, by_lane, steps, by_writers, with_effects, alone, volume_with, report_of, digest_of}
-use Rattle.generated.specs.Writers.{system, database, web}
+use Rattle.generated.specs.Making.{span, volume, group, writer, numbered, lane, by_lane, steps, by_writers, with_effects, alone, volume_with, report_of}
+use Rattle.generated.specs.Making.{digest_of, system, database, web}
 
 abbrev pub scenario : Plan
 scenario = record {

@@ -4,8 +4,8 @@ use Rattle.vss_names.specs.declared.order.Order.TheVariants.{Freeze}
 use Rattle.write_history.specs.declared.move_item.Move.{Move}
 use Rattle.scenario.specs.declared.op.Op.TheVariants.{Begin, Gather, Component, Start, Add, Prepare, Snapshot, Await, Status, End}
 use Rattle.scenario.specs.Plan.{Plan}
-use Rattle.generated.specs.Making.{span, volume, group, scripted, writer, numbered, lane, by_lane, by_writers, idle, with_effects, alone, volume_with, report_of, digest_of}
-use Rattle.generated.specs.Writers.{system, database, web}
+use Rattle.generated.specs.Making.{span, volume, group, scripted, writer, numbered, lane, by_lane, by_writers, idle, with_effects, alone, volume_with}
+use Rattle.generated.specs.Making.{report_of, digest_of, system, database, web}
 
 abbrev pub scenario : Plan
 scenario = record {

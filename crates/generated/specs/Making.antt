@@ -1,23 +1,29 @@
--- Short words for writing a scenario and a trail down.
-use Rattle.std.specs.Prelude.{ℕ, ◌+◌, List, [], ◌∷◌, ◌++◌, codes, replicate, map, take, Option, Some, None}
+-- Short words for writing a scenario, a trail and the metadata of writers down.
 use Rattle.std.specs.List.{concat}
+use Rattle.std.specs.Prelude.{ℕ, ◌+◌, List, [], ◌∷◌, ◌++◌, codes, replicate, map, take, Option, Some, None, true}
 use Rattle.hex.specs.Hex.{encode_lower}
-use Rattle.block_data.specs.Digest.{sha256}
-use Rattle.block_data.specs.PayloadBytes.{payload_bytes}
-use Rattle.block_data.specs.declared.payload.Payload.TheVariants.{Fill}
+use Rattle.vss_names.specs.declared.component_type.ComponentType.{ComponentType}
+use Rattle.vss_names.specs.declared.component_type.ComponentType.TheVariants.{Database, FileGroup}
+use Rattle.vss_names.specs.declared.level.Level.TheVariants.{System, BackEnd, FrontEnd}
 use Rattle.vss_names.specs.declared.order.Order.{Order}
-use Rattle.writer_meta.specs.Metadata.{Meta}
-use Rattle.writer_calls.specs.declared.answer.Answer.{Answer}
-use Rattle.writer_calls.specs.declared.scripted.Scripted.{Scripted}
+use Rattle.vss_names.specs.declared.source_kind.SourceKind.TheVariants as source
+use Rattle.vss_names.specs.declared.usage.Usage.TheVariants as usage
+use Rattle.block_data.specs.BlockBytes.{sha256, payload_bytes}
+use Rattle.block_data.specs.declared.payload.Payload.TheVariants.{Fill}
 use Rattle.write_history.specs.declared.actor.Actor.{Actor}
 use Rattle.write_history.specs.declared.actor.Actor.TheVariants.{Lane, Writer, Advance, Idle}
 use Rattle.write_history.specs.declared.mark.Mark.TheVariants.{Clean, Fault}
 use Rattle.write_history.specs.declared.move_item.Move.{Move}
+use Rattle.writer_calls.specs.declared.answer.Answer.{Answer}
+use Rattle.writer_calls.specs.declared.scripted.Scripted.{Scripted}
+use Rattle.writer_meta.specs.Metadata.{Meta, Part}
+use Rattle.scenario.specs.Plan.{GroupPlan, WriterPlan, LaneLine, LanePlan}
 use Rattle.scenario.specs.declared.op.Op.{Op}
 use Rattle.scenario.specs.declared.op.Op.TheVariants.{End}
 use Rattle.scenario.specs.declared.span.Span.{Span}
 use Rattle.scenario.specs.declared.volume_row.VolumeRow.{VolumeRow}
-use Rattle.scenario.specs.Plan.{GroupPlan, WriterPlan, LaneLine, LanePlan}
+
+-- ## Short words for writing a scenario and a trail down.
 
 -- ## scenarios
 
@@ -117,3 +123,18 @@ volume_with text images rest = line text ++ lines images ++ rest
 -- a whole report: its moves, the line that ends them, the volumes, the writers
 abbrev pub report_of : List (List ℕ) → List ℕ → List ℕ → List (List ℕ) → List ℕ
 report_of moves end volumes writers = line (codes "report 1") ++ concat moves ++ (line end ++ volumes ++ lines writers)
+
+-- ## The metadata of the writers of the worked runs, one of each level. Of their classes it matters only that they differ.
+
+-- a selectable component without a path
+abbrev pub part : ComponentType → List ℕ → Part
+part kind name = record { kind = kind; path = []; name = name; selectable = true }
+
+abbrev pub system : Meta
+system = record { class = 1; name = codes "System"; level = System; usage = usage.SystemService; source = source.Other; freeze_timeout = 60000; parts = part FileGroup (codes "main") ∷ [] }
+
+abbrev pub database : Meta
+database = record { class = 2; name = codes "Database"; level = BackEnd; usage = usage.UserData; source = source.TransactedDb; freeze_timeout = 60000; parts = part Database (codes "main") ∷ [] }
+
+abbrev pub web : Meta
+web = record { class = 3; name = codes "Web"; level = FrontEnd; usage = usage.UserData; source = source.Other; freeze_timeout = 60000; parts = part FileGroup (codes "main") ∷ [] }

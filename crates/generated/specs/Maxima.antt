@@ -11,7 +11,7 @@ use Rattle.scenario.specs.Plan.{Plan}
 use Rattle.vss_model.specs.State.{State, SetRow, start}
 use Rattle.vss_model.specs.Sessions.{new_set}
 use Rattle.vss_model.specs.Trail.{run}
-use Rattle.vss_report.specs.ToldReport.{told_move}
+use Rattle.vss_report.specs.ToldLines.{told_move}
 use Rattle.generated.specs.Making.{span, volume, group, numbered, implied_end, lane, by_lane, clean}
 
 -- 65 volumes with names of two letters, and a lane that adds each of them to one set

@@ -1,10 +1,19 @@
 -- The text of the generated scenario of a number: what it declares, the lane that makes four sets, and fifteen lanes that
 -- write, of which nine act as a writer. Only the `write` lines depend on the number. (This project's own.)
-use Rattle.std.specs.Prelude.{ℕ, List, [], ◌∷◌, ◌++◌, codes, nat_lt, if◌then◌else◌}
-use Rattle.std.specs.List.{flat_map, range_with_len}
 use Rattle.std.specs.Fmt.{decimal}
+use Rattle.std.specs.List.{flat_map, range_with_len}
+use Rattle.std.specs.Prelude.{ℕ, List, [], ◌∷◌, ◌++◌, codes, nat_lt, if◌then◌else◌}
 use Rattle.generated.specs.Draws.{volume_at, block_at, stamp_at}
-use Rattle.generated.specs.Lines.{as_lines}
+
+-- ## Texts in lines, each ended by a newline. (This project's own.)
+
+-- the text as a line, with the newline that ends it
+abbrev pub as_line : List ℕ → List ℕ
+as_line text = text ++ 10 ∷ []
+
+-- these lines, one after another
+abbrev pub as_lines : List (List ℕ) → List ℕ
+as_lines texts = flat_map as_line texts
 
 -- ## what is declared
 

@@ -6,8 +6,8 @@ use Rattle.write_history.specs.declared.move_item.Move.{Move}
 use Rattle.writer_calls.specs.declared.answer.Answer.TheVariants.{Veto}
 use Rattle.scenario.specs.declared.op.Op.TheVariants.{Begin, Gather, Component, Start, Add, Prepare, Snapshot, Await, Status, WriteFill, End}
 use Rattle.scenario.specs.Plan.{Plan}
-use Rattle.generated.specs.Making.{span, volume, group, scripted, writer, numbered, lane, lane_as, by_lane, by_writers, with_effects, alone, volume_with, report_of, digest_of}
-use Rattle.generated.specs.Writers.{system, database, web}
+use Rattle.generated.specs.Making.{span, volume, group, scripted, writer, numbered, lane, lane_as, by_lane, by_writers, with_effects, alone, volume_with}
+use Rattle.generated.specs.Making.{report_of, digest_of, system, database, web}
 
 abbrev pub scenario : Plan
 scenario = record {

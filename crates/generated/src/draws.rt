@@ -35,7 +35,7 @@ pub struct Draws {
     ghost stands: { at ≡ stands_at number lane drawn },
 }
 
-#[tactic(auto, using(crate::proofs::Drawing::stands_first, crate::proofs::Drawing::stands_next, crate::proofs::Drawing::volume_is, crate::proofs::Drawing::block_is, crate::proofs::Drawing::stamp_is))]
+#[tactic(auto, using(crate::proofs::Ranges::stands_first, crate::proofs::Ranges::stands_next, crate::proofs::Ranges::volume_is, crate::proofs::Ranges::block_is, crate::proofs::Ranges::stamp_is))]
 impl Draws {
     /// Before the first write of a lane.
     pub fn new(number: u32, lane: u32) -> Draws

@@ -1,10 +1,9 @@
 //! What each block of a generated scenario ends with.
 
 ghost use Rattle.std.specs.Prelude.{◌≡◌, ◌/◌, ◌<◌, ◌==◌, ◌&&◌, length, if◌then◌else◌};
-ghost use Rattle.block_data.specs.Runs.{zeros};
+ghost use Rattle.block_data.specs.BlockBytes.{zeros};
 ghost use Rattle.write_history.specs.History.{last_bytes};
-ghost use Rattle.generated.specs.Contents.{stamped, writes_to, final_bytes};
-ghost use Rattle.generated.specs.Summary.{final_digest};
+ghost use Rattle.generated.specs.Contents.{stamped, writes_to, final_bytes, final_digest};
 
 use crate::draws::Draws;
 use crate::lane_write::LaneWrite;
@@ -22,7 +21,7 @@ fn later(found: Option<u32>, write: LaneWrite, volume: u32, block: u32) -> Optio
 }
 
 /// The last number that a lane writes to a block of a volume, where it writes there.
-#[tactic(auto, using(crate::proofs::LastWrites::first_lane, crate::proofs::LastWrites::at_first, crate::proofs::LastWrites::none_found_later))]
+#[tactic(auto, using(crate::proofs::Ranges::first_lane, crate::proofs::Ranges::at_first, crate::proofs::Ranges::none_found_later))]
 fn last_stamp(number: u32, lane: u32, volume: u32, block: u32) -> Option<u32>
     requires { lane < 16 }
     ensures { stamped result ≡ last_bytes block zeros (writes_to number lane volume) }

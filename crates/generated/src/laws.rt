@@ -10,14 +10,11 @@ ghost use Rattle.vss_model.specs.State.{is_complete as is_complete_set, history_
 ghost use Rattle.vss_model.specs.Acts.{Act, state};
 ghost use Rattle.vss_model.specs.Effects.{evicted};
 ghost use Rattle.vss_model.specs.Trail.{acts, is_legal, is_complete, faults};
-ghost use Rattle.generated.specs.Scenario.{IsGenerated};
-ghost use Rattle.generated.specs.Plans.{plan_of};
+ghost use Rattle.generated.specs.Scenario.{IsGenerated, plan_of, IsRead};
 ghost use Rattle.generated.specs.Smooth.{IsSmooth};
 ghost use Rattle.generated.specs.Draws.{volume_at, block_at, stamp_at};
-ghost use Rattle.generated.specs.EndsWell.{EndsWell};
-ghost use Rattle.generated.specs.Reading.{IsRead};
+ghost use Rattle.generated.specs.Contents.{EndsWell, final_blocks};
 ghost use Rattle.generated.specs.ScenarioText.{gen_text};
-ghost use Rattle.generated.specs.Contents.{final_blocks};
 
 /// In a smooth scenario each legal and complete trail without fault marks completes all its sets.
 pub fn smooth_runs_complete_their_sets()
@@ -53,11 +50,13 @@ pub fn generated_runs_end_well()
 {}
 
 /// There is a generated scenario of each number.
+#[tactic(auto, using(crate::proofs::Generated::plan_is_generated))]
 pub fn generated_scenarios_exist()
     ensures { (n : ℕ) → IsGenerated n (plan_of n) }
 {}
 
 /// The first and the last write of the second lane for the number 7.
+#[tactic(auto, using(crate::proofs::Generated::first_volume, crate::proofs::Generated::first_block, crate::proofs::Generated::first_stamp, crate::proofs::Generated::last_volume, crate::proofs::Generated::last_block))]
 pub fn writes_of_seven()
     ensures volume { volume_at 7 1 0 ≡ 1 }
     ensures block { block_at 7 1 0 ≡ 18 }

@@ -1,8 +1,7 @@
 //! The text of a generated scenario.
 
 ghost use Rattle.std.specs.Prelude.{◌≡◌, ◌<◌, ◌++◌, codes, IfOk, OnOk};
-ghost use Rattle.generated.specs.Lines.{as_line, as_lines};
-ghost use Rattle.generated.specs.ScenarioText.{declarations, set_lines, acting, lane_text, write_text, writes_text, lanes_text, gen_text};
+ghost use Rattle.generated.specs.ScenarioText.{as_line, as_lines, declarations, set_lines, acting, lane_text, write_text, writes_text, lanes_text, gen_text};
 
 use crate::draws::Draws;
 use crate::lane_write::LaneWrite;

@@ -1,7 +1,7 @@
 //! The text of the summary of a generated scenario.
 
 ghost use Rattle.std.specs.Prelude.{◌≡◌, ◌++◌, IfOk, OnOk};
-ghost use Rattle.generated.specs.Summary.{volume_line, summary_head, summary_with, summary};
+ghost use Rattle.generated.specs.Contents.{volume_line, summary_head, summary_with, summary};
 
 use crate::final_contents::final_digest;
 use crate::pieces::{add_digest, add_number};

@@ -1,2 +1,2 @@
+mod BlockSums
 mod Joins
-mod More

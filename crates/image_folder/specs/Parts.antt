@@ -1,12 +1,14 @@
 -- The parts of a file that several volumes keep: how they are called, and which bytes of the file each has. (This project's own.)
-use Rattle.std.specs.Prelude.{ℕ, suc, ◌+◌, ◌*◌, ◌-◌, ◌/◌, ◌%◌, ◌==◌, Bool, true, false, List, [], ◌∷◌, ◌++◌, take, drop, length, min, if◌then◌else◌, ◌≡◌, ◌<◌, Option, Some, None, slice_get, All}
-use Rattle.cow_volume.specs.GroupValue.{GroupValue}
+use Rattle.std.specs.Prelude.{ℕ, suc, ◌+◌, ◌*◌, ◌-◌, ◌/◌, ◌%◌, ◌==◌, Bool, true, false, List, [], ◌∷◌, ◌++◌, take, drop, length, min, if◌then◌else◌, ◌≡◌, ◌<◌}
+use Rattle.std.specs.Prelude.{Option, Some, None, slice_get, All, ◌≢◌, ◌≤◌, nat_lt, IfSome}
+use Rattle.vss_names.specs.Names.{TextValue}
+use Rattle.cow_volume.specs.StandsFor.{GroupValue}
 use Rattle.image_store.specs.FileBytes.{file_in}
+use Rattle.image_store.specs.StoreValue.{AreOthers, IsNamed}
 use Rattle.image_store.specs.Plain.{Plain}
 use Rattle.image_store.specs.Showing.{shown_in}
 use Rattle.image_store.specs.declared.which.Which.{Which}
-use Rattle.image_store.specs.Naming.{AreOthers, IsNamed}
-use Rattle.vss_names.specs.TextValue.{TextValue}
+use Rattle.image_folder.specs.declared.state.Row.{Row}
 
 -- the digit with which n ends
 abbrev pub digit : ℕ → ℕ
@@ -54,3 +56,23 @@ ArePieces size number ps which (v ∷ u ∷ vs) file = (file_of (shown_in ps v w
 abbrev pub piece_length : ℕ → ℕ → Bool → ℕ → ℕ
 piece_length size number true bytes = bytes - number * size
 piece_length size number false bytes = min (bytes - number * size) size
+
+-- ## The rows of an area's slots, and what becomes of them if its volumes change. (This project's own.)
+
+-- the row of a slot in no use
+abbrev pub free : Row
+free = record { set = 0; block = 0; volume = 0 }
+
+-- a row without a volume: the slots of that are free, and a volume behind it has the number before its own
+abbrev pub without : ℕ → Row → Row
+without volume row = if row.set == 0 then free
+    else (if row.volume == volume then free
+    else (if nat_lt row.volume volume then row else record row { volume = row.volume - 1 }))
+
+-- from one slot up to another none is in use
+abbrev pub AreFree : List Row → ℕ → ℕ → Type 0
+AreFree rows from to = (slot : ℕ) (row : Row) → from ≤ slot → slot < to → slice_get rows slot ≡ Some row → row.set ≡ 0
+
+-- the slot before one is in use, if there is one
+abbrev pub IsUsedBefore : List Row → ℕ → Type 0
+IsUsedBefore rows from = 0 < from → IfSome (slice_get rows (from - 1)) (λ row. row.set ≢ 0)

@@ -2,6 +2,7 @@
 
 ghost use Rattle.std.specs.Prelude.{◌<◌, ◌≤◌, OnOk};
 
+use crate::device::SumTable;
 use crate::ended::of_folder;
 use crate::file_input::FileInput;
 use crate::folder::Folder;
@@ -19,7 +20,6 @@ use crate::program::Program;
 use crate::status::Status;
 use crate::way::Way;
 use block_data::BLOCK;
-use image_device::SumTable;
 use std::fs;
 use std::io::ErrorKind;
 use std::sync::Arc;
@@ -129,9 +129,28 @@ pub fn inputs_of<'a>(program: &Program, pair: Pair<'a>) -> Result<Vec<FileInput<
     Ok(inputs)
 }
 
-/// Adds the jobs of a pair, of the new volumes behind those of the jobs that there are.
-fn add_jobs<'a>(program: &Program, pair: Pair<'a>, jobs: &mut Vec<Job<'a>>) -> Result<(), Status> {
+/// That a file is not the block device on which a folder is to lie.
+fn check_place(
+    program: &Program,
+    path: &str,
+    file: &str,
+    input: &FileInput<'_>,
+) -> Result<(), Status> {
+    if input.is_at(String::from_str(program.alloc(), parent_of(path))?) {
+        return Err(ended!(*program, Refused; "{file}: is the device on which {path} would lie"));
+    }
+    Ok(())
+}
+
+/// Adds the jobs of a pair, of the new volumes of a folder behind those of the jobs that there are.
+fn add_jobs<'a>(
+    program: &Program,
+    path: &str,
+    pair: Pair<'a>,
+    jobs: &mut Vec<Job<'a>>,
+) -> Result<(), Status> {
     for input in inputs_of(program, pair)? {
+        check_place(program, path, pair.file, &input)?;
         let volume = u32::try_from(jobs.len()).unwrap_or(u32::MAX);
         jobs.push(Job::new(program.alloc(), volume, input)?)?;
     }
@@ -238,7 +257,7 @@ fn create_by<'a>(
     requires { slots ≤ MOST_SLOTS }
 {
     for pair in pairs {
-        add_jobs(program, *pair, jobs)?;
+        add_jobs(program, path, *pair, jobs)?;
     }
     wait_out_all(jobs);
     make_new(program, path, slots, jobs.as_mut_slice())

@@ -1,5 +1,6 @@
 ghost use Rattle.std.specs.Prelude.{◌≤◌};
 
+use crate::device::SumTable;
 use crate::ended::of_folder;
 use crate::marker::{lines_in, sealed};
 use crate::own_file::{all_of, is_same, new_file, own_at, own_file, parent_of};
@@ -7,7 +8,6 @@ use crate::program::Program;
 use crate::state_file::{Front, write_state, write_whole};
 use crate::status::Status;
 use diff_area::pages_for;
-use image_device::SumTable;
 use image_order::{Name, StateFolder};
 use std::alloc::{AllocError, Global};
 use std::fs::File;

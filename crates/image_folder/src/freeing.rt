@@ -1,7 +1,7 @@
 //! Space of slots that are in no use comes back: the area is cut behind its last slot in use, and gets its length again. What was there is a hole then.
 
 ghost use Rattle.std.specs.Prelude.{◌≤◌, length};
-ghost use Rattle.image_folder.specs.Rows.{AreFree, IsUsedBefore};
+ghost use Rattle.image_folder.specs.Parts.{AreFree, IsUsedBefore};
 
 use crate::ended::of_folder;
 use crate::folder::{AREA, Folder};

@@ -1,7 +1,7 @@
 //! The rows of the slots of an area, and its header and table with other rows.
 
 ghost use Rattle.std.specs.Prelude.{◌≡◌, ◌≤◌, ◌++◌, ◌-◌, drop, length, map, replicate, take, IfOk};
-ghost use Rattle.image_folder.specs.Rows.{free, without};
+ghost use Rattle.image_folder.specs.Parts.{free, without};
 
 use crate::state::{Row, State, row_in};
 use crate::status::Status;

@@ -1,6 +1,7 @@
 //! `grow`: the area gets more slots. Its table may take the place of the first of them: these are copied behind the others.
 
 use crate::creating::check_slots;
+use crate::device::SumTable;
 use crate::ended::say;
 use crate::folder::{AREA, Folder};
 use crate::front::turned;
@@ -12,7 +13,6 @@ use crate::state::blocks_in;
 use crate::status::Status;
 use block_data::BlockBuf;
 use diff_area::pages_for;
-use image_device::SumTable;
 use image_order::mark;
 use std::sync::Arc;
 

@@ -2,6 +2,7 @@
 
 ghost use Rattle.std.specs.Prelude.{◌≡◌, ◌<◌, [], length};
 
+use crate::device::StoreDevice;
 use crate::ended::say;
 use crate::file_input::FileInput;
 use crate::folder::Folder;
@@ -11,7 +12,6 @@ use crate::opened::Files;
 use crate::program::Program;
 use crate::progress::Progress;
 use crate::status::Status;
-use image_device::StoreDevice;
 use image_store::{Jobs, PassFault, Report};
 use std::alloc::AllocError;
 use write_history::Evicted;

@@ -15,6 +15,7 @@ macro_rules! ended {
 
 mod creating;
 mod dates;
+mod device;
 mod device_file;
 mod ended;
 mod file_input;
@@ -55,6 +56,7 @@ mod way;
 
 pub use creating::{create, make_new};
 pub use dates::{Dated, dated_in, is_note};
+pub use device::two_changed_numbers_are_found;
 pub use ended::{note, said, say};
 pub use file_input::{ABSENT, FileInput};
 pub use folder::{AREA, Folder, STATE};

@@ -2,6 +2,7 @@
 
 ghost use Rattle.std.specs.Prelude.{◌≡◌, length};
 
+use crate::device::{BlockSum, SumTable};
 use crate::ended::{by_device, of_folder};
 use crate::new_store::new_blocks;
 use crate::own_file::own_file;
@@ -9,7 +10,6 @@ use crate::program::Program;
 use crate::status::Status;
 use block_data::{BLOCK, BlockBuf};
 use byteorder::{ByteOrder, LittleEndian};
-use image_device::{BlockSum, SumTable};
 use std::fs::File;
 use std::os::unix::fs::FileExt;
 use volume_device::FileFault;

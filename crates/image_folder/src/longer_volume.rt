@@ -2,6 +2,7 @@
 //! the block that was the last gets one of the new last block.
 
 use crate::creating::{check_blocks, check_of_file};
+use crate::device::{BlockSum, SumTable};
 use crate::ended::say;
 use crate::file_input::{FileInput, NONE};
 use crate::folder::{AREA, Folder};
@@ -18,7 +19,6 @@ use crate::status::Status;
 use crate::sum_fault::say_other;
 use crate::volumes::{add_entries, check_count, fill_all};
 use block_data::BlockBuf;
-use image_device::{BlockSum, SumTable};
 use image_order::mark;
 use std::alloc::{AllocError, Global};
 use std::sync::Arc;

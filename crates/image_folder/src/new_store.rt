@@ -1,8 +1,9 @@
 //! The files of a new folder as a store.
 
 ghost use Rattle.std.specs.Prelude.{◌≡◌, ◌≤◌, map, replicate, IfOk, IsTrue};
-ghost use Rattle.diff_area.specs.Records.{AreVolumes, free};
+ghost use Rattle.diff_area.specs.Format.{AreVolumes, free};
 
+use crate::device::{KeptSums, StoreDevice};
 use crate::ended::by_device;
 use crate::folder::{AREA, Folder};
 use crate::job::Job;
@@ -13,7 +14,6 @@ use crate::program::Program;
 use crate::status::Status;
 use block_data::BLOCK;
 use diff_area::{Area, pages_for};
-use image_device::{KeptSums, StoreDevice};
 use image_store::{NewFault, Store};
 use std::alloc::Global;
 use std::fs::File;

@@ -2,6 +2,7 @@
 
 ghost use Rattle.std.specs.Prelude.{◌≡◌, ◌<◌, length};
 
+use crate::device::{StoreDevice, SumTable};
 use crate::device_file::Opening;
 use crate::ended::{note, say};
 use crate::folder::{Folder, MARKER, STATE};
@@ -17,7 +18,6 @@ use crate::status::Status;
 use crate::sum_fault::{fault_of, say_other};
 use crate::way::Way;
 use diff_area::AreaFault;
-use image_device::{StoreDevice, SumTable};
 use image_order::{StateFolder, commit, mark, overwrite_marked};
 use image_store::{
     Head, Jobs, OpenFault, Refused, Store, keep_in_order, settle_in_order, update_in_order,

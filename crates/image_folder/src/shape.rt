@@ -1,6 +1,7 @@
 //! What a folder becomes that gets other volumes or slots. All is made beside what counts, and then the next state takes the place of the one
 //! before. Over files the passes tell nothing.
 
+use crate::device::{StoreDevice, SumTable};
 use crate::folder::Folder;
 use crate::front::{front_of, rows_of};
 use crate::left::remove_file;
@@ -9,7 +10,6 @@ use crate::program::Program;
 use crate::state::{Row, State, blocks_in};
 use crate::status::Status;
 use block_data::BlockBuf;
-use image_device::{StoreDevice, SumTable};
 use image_order::{Copied, Passes, commit, end_in_order};
 use image_store::Head;
 use std::alloc::Global;

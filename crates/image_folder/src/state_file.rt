@@ -2,10 +2,10 @@
 
 ghost use Rattle.std.specs.Prelude.{◌≡◌, length};
 
+use crate::device::SumTable;
 use crate::own_file::new_file;
 use crate::program::Program;
 use block_data::{BLOCK, BlockBuf, Hasher};
-use image_device::SumTable;
 use std::fs::File;
 use std::io;
 use std::io::{ErrorKind, Write};

@@ -1,11 +1,11 @@
 //! What is said of a device that failed.
 
+use crate::device::{Lost, StoreDevice};
 use crate::ended::by_device;
 use crate::program::Program;
 use crate::state::row_in;
 use crate::status::Status;
 use block_data::BLOCK;
-use image_device::{Lost, StoreDevice};
 
 /// Says that a block of a volume has another sum.
 fn say_block(program: &Program, device: &StoreDevice, index: u32) -> Status {

@@ -1,6 +1,7 @@
 //! `add` and `remove`: a folder gets the volumes of a file, or those of one go with their images.
 
 use crate::creating::{check_blocks, check_of_file, inputs_of};
+use crate::device::{BlockSum, SumTable};
 use crate::ended::say;
 use crate::file_input::FileInput;
 use crate::folder::Folder;
@@ -20,7 +21,6 @@ use crate::status::Status;
 use crate::updating::check_own;
 use crate::way::Way;
 use block_data::BlockBuf;
-use image_device::{BlockSum, SumTable};
 use image_order::{StateFolder, mark};
 use image_store::PassFault;
 use std::sync::Arc;

@@ -1,19 +1,20 @@
--- What the passes of an update make of the copies.
-use Rattle.std.proofs.Common.{◌≡◌, ◌≢◌, ℕ, zero, suc, ◌+◌, ◌-◌, ◌^◌, ◌<◌, ◌≤◌, List, [], ◌∷◌, length, min, refl, ap, sym, subst, ◌∙◌, arith, Bool, true, false, not, Option, Some, inl, inr}
-use Rattle.std.specs.Prelude.{◌⊎◌, ◌==◌, slice_get, if◌then◌else◌, ◌&&◌, nat_lt, Result, Ok}
-use Rattle.std.specs.Int.{from_bool}
+-- What the passes of an update make of the copies, and how many blocks are marked, counted block by block.
+use Rattle.std.proofs.Common.{ℕ, ◌≡◌, ◌<◌, ◌≤◌, ◌+◌, Bool, true, false, List, length, take, get_or, slice_get, refl, arith, inl, inr, ◌≢◌, zero, suc, ◌-◌, ◌^◌}
+use Rattle.std.proofs.Common.{[], ◌∷◌, min, ap, sym, subst, ◌∙◌, not, Option, Some}
 use Rattle.std.proofs.lemmas.Bool.{false≢true, cases_lt, lt-ltb, le-ltb}
-use Rattle.std.proofs.lemmas.List.Sums.{sum_by-cons}
-use Rattle.std.proofs.lemmas.Option.{same_Some, slice_get_within}
-use Rattle.diff_area.specs.Places.{place_of_slot}
-use Rattle.diff_area.specs.Records.{free, is_free, used_in}
+use Rattle.std.proofs.lemmas.List.{length-take, take_all}
+use Rattle.std.proofs.lemmas.List.Sums.{count_by-le-length, count_by_more_yes, count_by_more_no, sum_by-cons}
+use Rattle.std.proofs.lemmas.Option.{slice_get_cases, same_Some, slice_get_within}
+use Rattle.std.specs.Int.{from_bool}
+use Rattle.std.specs.Prelude.{if◌then◌else◌, unwrap_or, ◌⊎◌, ◌==◌, ◌&&◌, nat_lt, Result, Ok}
+use Rattle.volume_device.specs.declared.device.Device.{Ghosts}
+use Rattle.diff_map.specs.Copies.{AreImages, newest}
+use Rattle.diff_area.specs.Format.{place_of_slot, free, is_free, used_in}
 use Rattle.diff_area.specs.declared.table_record.Record.{Record}
-use Rattle.diff_map.specs.MapValue.{AreImages, newest}
-use Rattle.cow_volume.specs.GroupValue.{GroupValue}
-use Rattle.cow_volume.specs.StandsFor.{record_of}
-use Rattle.cow_volume.specs.Changes.{has_record, gone_to, noted}
 use Rattle.cow_volume.specs.Calls.{sets_at, sets_in, IsQuiet}
-use Rattle.cow_volume.specs.CopiedOnce.{IsAreaPut, IsFreeSlotCopied}
+use Rattle.cow_volume.specs.Changes.{has_record, gone_to, noted}
+use Rattle.cow_volume.specs.CopiesAfter.{IsAreaPut}
+use Rattle.cow_volume.specs.StandsFor.{GroupValue, record_of}
 use Rattle.cow_volume.specs.Room.{after, gone_group, lacks_copy, is_full, HasRoom}
 use Rattle.cow_volume.specs.declared.cause.Cause.{Cause}
 use Rattle.cow_volume.proofs.Counting.{record_is_used}
@@ -21,17 +22,38 @@ use Rattle.cow_volume.proofs.Group.{slice_get-set_same, slice_get-set_other, len
 use Rattle.cow_volume.proofs.MakingRoom.{keeps_newest, newest_most, none_after, sets_after}
 use Rattle.cow_volume.proofs.Rows.{has_slot, has_from_slot, lacks_newest}
 use Rattle.cow_volume.proofs.Ties.{free_is, lacks_some, newest_above}
-use Rattle.image_store.specs.Copying.{AreCopied, AreCopiedTo, HasCopiesOf, IsAreaSame, IsInUse, IsStoppedAt, KeepsCopies, KeepsSlots}
-use Rattle.image_store.proofs.Sets.{at_or_below}
-use Rattle.volume_device.specs.declared.device.Device.{Ghosts}
+use Rattle.image_store.specs.Ordering.{marked_in}
+use Rattle.image_store.specs.Copying.{AreCopied, AreCopiedTo, HasCopiesOf, IsAreaSame, IsInUse, IsStoppedAt, KeepsCopies}
+use Rattle.image_store.proofs.Opens.{at_or_below}
+
+-- ## How many blocks are marked, counted block by block.
+
+pub marked_none : (differs : List Bool) → marked_in 0 differs ≡ 0
+marked_none differs = refl
+
+pub marked_few : (differs : List Bool) (k : ℕ) → marked_in k differs ≤ k
+marked_few differs k = grind (arith, count_by-le-length (λ mark. mark) (take k differs), length-take k differs)
+
+marked_at : (differs : List Bool) (k : ℕ) (mark : Bool) → k < length differs → get_or differs k mark ≡ mark
+    → marked_in (k + 1) differs ≡ marked_in k differs + (if mark then 1 else 0)
+marked_at differs k true within is = count_by_more_yes (λ mark. mark) differs k true within is
+marked_at differs k false within is = let same = count_by_more_no (λ mark. mark) differs k false within is in omega arith
+
+past_end : (differs : List Bool) (k : ℕ) → length differs ≤ k → marked_in (k + 1) differs ≡ marked_in k differs + 0
+past_end differs k low = grind (arith, take_all k differs low, take_all (k + 1) differs (omega arith))
+
+pub marked_more : (differs : List Bool) (k : ℕ) → marked_in (k + 1) differs ≡ marked_in k differs + (if unwrap_or (slice_get differs k) false then 1 else 0)
+marked_more differs k = elim (slice_get_cases differs k).1 [
+  | inl here ↦ rw here.2 (marked_at differs k here.0 here.1 here.3)
+  | inr past ↦ rw past.1 (past_end differs k past.0)
+]
+
+-- ## What the passes of an update make of the copies.
 
 -- ## nothing changes
 
 pub area_itself : {D : Type 0} (told : D → Option (List (List ℕ))) (g : GroupValue D) → IsAreaSame told g g
 area_itself told g = record { volumes = refl; images = refl; records = refl; slots = refl }
-
-pub area_then : {D : Type 0} (told : D → Option (List (List ℕ))) (a b c : GroupValue D) → IsAreaSame told a b → IsAreaSame told b c → IsAreaSame told a c
-area_then told a b c first second = grind arith
 
 pub area_quiet : {D : Type 0} (ghosts : Ghosts D) (old new : GroupValue D) → IsQuiet ghosts old new → IsAreaSame ghosts.told old new
 area_quiet ghosts old new quiet = record { volumes = quiet.kept.volumes; images = quiet.images; records = quiet.records; slots = quiet.slots }
@@ -76,30 +98,19 @@ keeps_then told a b c first second = record {
 
 -- ## one block is put
 
-slot_put : {D : Type 0} (told : D → Option (List (List ℕ))) (old new : GroupValue D) (v b slot : ℕ) → IsFreeSlotCopied told old new v b slot → KeepsSlots told old new
-slot_put told old new v b slot one = grind (arith, length-slice_set, slice_get-set_other)
-
 pub put_keeps : {D : Type 0} (told : D → Option (List (List ℕ))) (old new : GroupValue D) (v b : ℕ) (r : Result Unit Cause) → IsAreaPut told old new v b r → new.images ≡ old.images
     → new.area.volumes ≡ old.area.volumes → KeepsCopies told old new
-put_keeps told old new v b r broken images volumes = grind (arith, area_kept, length-slice_set, slice_get-set_other, same_Some, slot_put)
-
--- the newest image has its copy
-lacks_where : {D : Type 0} (old new : GroupValue D) (v b : ℕ) → new.area.records ≡ old.area.records → new.images ≡ old.images
-    → lacks_copy new.area.records v (sets_at new v) b ≡ lacks_copy old.area.records v (sets_at old v) b
-lacks_where old new v b records images = grind arith
+put_keeps told old new v b r broken images volumes = grind (arith, area_kept, length-slice_set, slice_get-set_other, same_Some)
 
 has_noted : (records : List Record) (v : ℕ) (sets : List ℕ) (b slot : ℕ) → 0 < length sets → slice_get records slot ≡ Some (record_of v (newest sets) b) → lacks_copy records v sets b ≡ false
 has_noted records v sets b slot some at = lacks_newest records v sets b some ∙ ap not (has_from_slot records (record_of v (newest sets) b) slot at)
 
 pub put_has : {D : Type 0} (told : D → Option (List (List ℕ))) (old new : GroupValue D) (v b : ℕ) (done : Unit {0}) → IsAreaPut told old new v b (Ok done) → new.images ≡ old.images
     → lacks_copy new.area.records v (sets_at new v) b ≡ false
-put_has told old new v b done (inl none) images = lacks_where old new v b none.records images ∙ none.has
+put_has told old new v b done (inl none) images = (grind (arith, none.records)) ∙ none.has
 put_has told old new v b done (inr one) images =
-    let sets : sets_at new v ≡ sets_at old v = ap (λ (i : List (List ℕ)). sets_in (slice_get i v)) images in
-    let row = record_of v (newest (sets_at old v)) b in
-    let there : slice_get new.area.records one.slot ≡ Some row =
-    ap (λ (rs : List Record). slice_get rs one.slot) one.records ∙ slice_get-set_same old.area.records one.slot free row one.copy.was_free in
-    ap (λ (s : List ℕ). lacks_copy new.area.records v s b) sets
+    let there : slice_get new.area.records one.slot ≡ Some (record_of v (newest (sets_at old v)) b) = grind (arith, slice_get-set_same) in
+    ap (λ (s : List ℕ). lacks_copy new.area.records v s b) (ap (λ (i : List (List ℕ)). sets_in (slice_get i v)) images)
     ∙ has_noted new.area.records v (sets_at old v) b one.slot (lacks_some old.area.records v (sets_at old v) b one.copy.lacks) there
 
 -- one slot more is used
@@ -251,11 +262,6 @@ none_in (s ∷ sets) e = let none = same_number (length (s ∷ sets)) 0 e in abs
 
 -- ## the third pass
 
--- a block that has its copy is put
-pub put_same : {D : Type 0} (told : D → Option (List (List ℕ))) (old new : GroupValue D) (v b : ℕ) (r : Result Unit Cause) → lacks_copy old.area.records v (sets_at old v) b ≡ false
-    → IsAreaPut told old new v b r → new.images ≡ old.images → new.area.volumes ≡ old.area.volumes → IsAreaSame told old new
-put_same told old new v b r has broken images volumes = grind arith
-
 -- no image goes for one that has its copy
 pub none_goes : {D : Type 0} (told : D → Option (List (List ℕ))) (old room : GroupValue D) (v b up_to : ℕ) → lacks_copy old.area.records v (sets_at old v) b ≡ false → HasRoom told old room v b up_to
     → up_to ≡ 0
@@ -264,7 +270,7 @@ none_goes told old room v b up_to has made = made.needless (ap (λ t. t && is_fu
 pub area_has : {D : Type 0} (told : D → Option (List (List ℕ))) (old now : GroupValue D) (v : ℕ) (differs : List Bool) (from to b : ℕ)
     → AreCopied old v differs from to → IsAreaSame told old now → from ≤ b → b < to
     → slice_get differs b ≡ Some true → lacks_copy now.area.records v (sets_at now v) b ≡ false
-area_has told old now v differs from to b copied same low high marked = lacks_where old now v b same.records same.images ∙ copied b low high marked
+area_has told old now v differs from to b copied same low high marked = (grind (arith, same.records, same.images)) ∙ copied b low high marked
 
 -- so where room is made for a marked block nothing changes
 pub area_room : {D : Type 0} (told : D → Option (List (List ℕ))) (old now room : GroupValue D) (v : ℕ) (differs : List Bool) (from to b up_to : ℕ)
@@ -276,4 +282,4 @@ pub area_put : {D : Type 0} (told : D → Option (List (List ℕ))) (old now roo
     (r : Result Unit Cause) → AreCopied old v differs from to
     → IsAreaSame told old now → from ≤ b → b < to → slice_get differs b ≡ Some true → HasRoom told now room v b up_to → IsAreaPut told room new v b r → new.images ≡ room.images
     → new.area.volumes ≡ room.area.volumes → IsAreaSame told old new
-area_put told old now room new v differs from to b up_to r copied before low high marked made area images volumes = grind (arith, area_room, area_then, put_same)
+area_put told old now room new v differs from to b up_to r copied before low high marked made area images volumes = grind (arith, area_room)

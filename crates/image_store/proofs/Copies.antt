@@ -4,24 +4,22 @@ use Rattle.std.specs.Prelude.{◌⊎◌, ◌==◌, filter, if◌then◌else◌, 
 use Rattle.std.specs.List.{range_with_len}
 use Rattle.std.proofs.lemmas.List.{map-append, length-map}
 use Rattle.std.proofs.lemmas.List.FromFn.{length-range_with_len}
-use Rattle.block_data.specs.Runs.{zeros}
+use Rattle.std.proofs.lemmas.Grind.{common_steps}
+use Rattle.block_data.specs.BlockBytes.{zeros}
 use Rattle.write_history.specs.History.{Write, Image, History, last_bytes, content, contents, point_in, sets_of, cut, written, dropped, reverted, reverted_in_part, restoring, to_restore, after_set}
 use Rattle.write_history.specs.History.{up_to_set, AreLater, AreInTime}
 use Rattle.cow_volume.proofs.Group.{same_number}
 use Rattle.cow_volume.proofs.Reading.{last_bytes-append, content_all}
 use Rattle.cow_volume.proofs.Writing.{contents-more, content-before}
-use Rattle.cow_volume.proofs.NewerGone.{last_of, in_time_cut, image_at}
+use Rattle.cow_volume.proofs.GoingBack.{last_of, in_time_cut, image_at}
 use Rattle.image_store.specs.Plain.{Kept, Plain, kept_of, plain_of, cut_on, gone_on, with_blocks, dropped_on, older_on, back_to, reverted_on, image_in}
 use Rattle.image_store.specs.Steps.{AreMixed}
 
 -- ## the images
 
-keep-if : (t : Bool) (g : Image → Kept) (i : Image) (is : List Image) (ks : List Kept) → map g is ≡ ks → map g (if t then i ∷ is else is) ≡ (if t then g i ∷ ks else ks)
-keep-if t g i is ks e = grind arith
-
 kept-filter : (f : ℕ → Bool) (n : ℕ) (ws : List Write) (is : List Image) → map (kept_of n ws) (filter (λ i. f i.set) is) ≡ filter (λ k. f k.set) (map (kept_of n ws) is)
 kept-filter f n ws [] = refl
-kept-filter f n ws (i ∷ is) = keep-if (f i.set) (kept_of n ws) i (filter (λ j. f j.set) is) (filter (λ k. f k.set) (map (kept_of n ws) is)) (kept-filter f n ws is)
+kept-filter f n ws (i ∷ is) = grind (arith, kept_of n ws, kept-filter f n ws is)
 
 -- two histories of writes with the same blocks at each point up to one
 kept-same : (k n : ℕ) (ws vs : List Write) (is : List Image) → ((p : ℕ) → p ≤ k → contents n ws p ≡ contents n vs p) → AreInTime k is → map (kept_of n ws) is ≡ map (kept_of n vs) is
@@ -30,33 +28,21 @@ kept-same k n ws vs (i ∷ is) h time =
     ap (λ blocks. record { set = i.set; blocks = blocks } ∷ map (kept_of n ws) is) (h i.point time.0)
     ∙ ap (λ ks. kept_of n vs i ∷ ks) (kept-same k n ws vs is h time.2)
 
--- the blocks of a set's image are those at its point
-image_at-if : (t : Bool) (blocks : List (List ℕ)) (p n : ℕ) (ws : List Write) (rest : Option (List (List ℕ))) (o : Option ℕ) → blocks ≡ contents n ws p → rest ≡ option_map (contents n ws) o
-    → (if t then Some blocks else rest) ≡ option_map (contents n ws) (if t then Some p else o)
-image_at-if t blocks p n ws rest o e f = grind arith
-
 pub image_of_point : (set n : ℕ) (ws : List Write) (is : List Image) → image_in set (map (kept_of n ws) is) ≡ option_map (contents n ws) (point_in set is)
 image_of_point set n ws [] = refl
-image_of_point set n ws (i ∷ is) = image_at-if (i.set == set) (contents n ws i.point) i.point n ws (image_in set (map (kept_of n ws) is)) (point_in set is) refl (image_of_point set n ws is)
+image_of_point set n ws (i ∷ is) = grind (arith, image_of_point set n ws is)
 
 pub sets_of_kept : (n : ℕ) (ws : List Write) (is : List Image) → map (λ (k : Kept). k.set) (map (kept_of n ws) is) ≡ sets_of is
 sets_of_kept n ws [] = refl
 sets_of_kept n ws (i ∷ is) = ap (λ xs. i.set ∷ xs) (sets_of_kept n ws is)
 
--- images that are in time stay so where some go
-later-if : (t : Bool) (i j : Image) (js xs : List Image) → AreLater i (j ∷ js) → AreLater i xs → AreLater i (if t then j ∷ xs else xs)
-later-if t i j js xs later rest = grind arith
-
 later-filter : (test : Image → Bool) (i : Image) (js : List Image) → AreLater i js → AreLater i (filter test js)
 later-filter test i [] later = tt
-later-filter test i (j ∷ js) later = later-if (test j) i j js (filter test js) later (later-filter test i js later.2)
-
-in_time-if : (t : Bool) (k : ℕ) (i : Image) (is xs : List Image) → AreInTime k (i ∷ is) → AreLater i xs → AreInTime k xs → AreInTime k (if t then i ∷ xs else xs)
-in_time-if t k i is xs time later rest = grind arith
+later-filter test i (j ∷ js) later = grind (arith, later-filter test i js later.2)
 
 pub in_time-filter : (test : Image → Bool) (k : ℕ) (is : List Image) → AreInTime k is → AreInTime k (filter test is)
 in_time-filter test k [] time = tt
-in_time-filter test k (i ∷ is) time = in_time-if (test i) k i is (filter test is) time (later-filter test i is time.1) (in_time-filter test k is time.2)
+in_time-filter test k (i ∷ is) time = grind (arith, later-filter test i is time.1, in_time-filter test k is time.2)
 
 -- ## the blocks
 
@@ -73,10 +59,7 @@ contents-before n ws more p l = same-range (content (ws ++ more) p) (content ws 
 contents-cut : (n : ℕ) (ws : List Write) (p q : ℕ) → q ≤ p → contents n (take p ws) q ≡ contents n ws q
 contents-cut n ws p q l = same-range (content (take p ws) q) (content ws q) 0 n (λ b. ap (last_bytes b zeros) (take_twice p q ws l)) where
   take_twice : (p q : ℕ) (xs : List Write) → q ≤ p → take q (take p xs) ≡ take q xs
-  take_twice p zero xs l = refl
-  take_twice zero (suc q) xs l = absurd (omega arith)
-  take_twice (suc p) (suc q) [] l = refl
-  take_twice (suc p) (suc q) (x ∷ xs) l = ap (λ ys. x ∷ ys) (take_twice p q xs (omega arith))
+  take_twice p q xs l = grind (arith, common_steps)
 
 contents-cut_end : (n : ℕ) (ws : List Write) (p : ℕ) → contents n (take p ws) (length (take p ws)) ≡ contents n ws p
 contents-cut_end n ws p = same-range (content (take p ws) (length (take p ws))) (content ws p) 0 n (λ b. content_all (take p ws) b)
@@ -137,13 +120,10 @@ restored_bytes ws p b (c ∷ bs) before old e =
 moved : (x y z u w : List ℕ) → x ≡ u → y ≡ w → (u ≡ w) ⊎ (u ≡ z) → (x ≡ y) ⊎ (x ≡ z)
 moved x y z u w e f x7 = grind arith
 
-some_either : (x y z : List ℕ) → (x ≡ y) ⊎ (x ≡ z) → (Some x ≡ Some y) ⊎ (Some x ≡ Some z)
-some_either x y z x3 = grind arith
-
 mixed-range : (f g h : ℕ → List ℕ) (a n : ℕ) → ((b : ℕ) → (f b ≡ g b) ⊎ (f b ≡ h b)) → (b : ℕ)
     → (slice_get (map f (range_with_len a n)) b ≡ slice_get (map g (range_with_len a n)) b) ⊎ (slice_get (map f (range_with_len a n)) b ≡ slice_get (map h (range_with_len a n)) b)
 mixed-range f g h a zero each b = inl refl
-mixed-range f g h a (suc n) each zero = some_either (f a) (g a) (h a) (each a)
+mixed-range f g h a (suc n) each zero = grind (arith, each a)
 mixed-range f g h a (suc n) each (suc b) = mixed-range f g h (a + 1) n each b
 
 pub mixed-in_part : (n set p k : ℕ) (h : History) → AreMixed (plain_of n h).blocks (contents n h.writes p) (plain_of n (reverted_in_part n set p k h)).blocks

@@ -1,35 +1,38 @@
--- What lasts of a store that is closed, and what a store is that is opened again.
-use Rattle.std.proofs.Common.{◌≡◌, ℕ, suc, ◌+◌, ◌<◌, ◌≤◌, List, [], ◌∷◌, ◌++◌, length, map, take, drop, refl, ap, sym, subst, ◌∙◌, arith, true, Option, Some, is_some}
-use Rattle.std.specs.Prelude.{slice_get, slice_set, IfErr, IfSome, Result, Ok, Err, OnErr, OnOk}
-use Rattle.std.proofs.lemmas.List.{length-map, map-set, take_all, take-append-le}
+-- What lasts of a store that is closed, what a store is that is opened again, and that what lasts is what the opening takes up.
+use Rattle.std.proofs.Common.{◌≡◌, ℕ, suc, ◌+◌, ◌<◌, ◌≤◌, List, [], ◌∷◌, ◌++◌, length, map, take, drop, refl, ap, sym, subst, ◌∙◌, arith, true, Option, Some}
+use Rattle.std.proofs.Common.{is_some, Ok}
+use Rattle.std.proofs.lemmas.List.{length-map, map-set, take_all, take-append-le, append_assoc, drop_at, length-append}
 use Rattle.std.proofs.lemmas.List.FromFn.{length-map-range_with_len}
 use Rattle.std.proofs.lemmas.Option.{same_Some, slice_get_within}
-use Rattle.vss_names.specs.TextValue.{TextValue}
+use Rattle.std.specs.Prelude.{slice_get, slice_set, IfErr, IfSome, Result, Err, OnErr, OnOk, codes}
+use Rattle.vss_names.specs.Faults.{Rose}
+use Rattle.vss_names.specs.Names.{TextValue}
+use Rattle.volume_device.specs.declared.device.Device.{Ghosts}
 use Rattle.write_history.specs.History.{History, contents}
 use Rattle.write_history.specs.Slots.{Copy, copies}
 use Rattle.diff_area.specs.AreaValue.{AreaValue}
 use Rattle.diff_area.specs.Copies.{AreStored, AreHeld}
-use Rattle.diff_area.proofs.TableBlocks.{get-map_range}
-use Rattle.vss_catalog.specs.Entries.{EntryValue, lists_of}
-use Rattle.vss_catalog.specs.Group.{entry_at, entries_of}
-use Rattle.cow_volume.specs.GroupValue.{GroupValue, placed}
-use Rattle.cow_volume.specs.StandsFor.{StandsFor}
-use Rattle.cow_volume.specs.Ending.{AllTell, IsSync, IsSynced}
-use Rattle.cow_volume.specs.Resuming.{AreKept}
+use Rattle.diff_area.proofs.ByPlace.{get-map_range}
 use Rattle.cow_volume.specs.Calls.{blocks_in, sets_in}
+use Rattle.cow_volume.specs.Ending.{AllTell, IsSync, IsSynced}
+use Rattle.cow_volume.specs.StandsFor.{GroupValue, placed, StandsFor}
+use Rattle.cow_volume.specs.Resuming.{AreKept}
 use Rattle.cow_volume.specs.declared.cause.Cause.{Cause}
 use Rattle.cow_volume.specs.declared.cause.Cause.TheVariants.{Volume}
 use Rattle.cow_volume.proofs.Group.{quiet_stands, slice_get-set_same, slice_get-set_other, slice_get_inside, slice_get_map, same_number, other_number}
 use Rattle.cow_volume.proofs.Kept.{map_set_told}
-use Rattle.vss_names.specs.Faults.{Rose}
-use Rattle.volume_device.specs.declared.device.Device.{Ghosts}
+use Rattle.vss_catalog.specs.Entries.{EntryValue, lists_of, entry_at, entries_of}
+use Rattle.vss_catalog.specs.Reading.{catalog_in, number_in}
+use Rattle.vss_catalog.specs.Written.{bytes_of, number_bytes}
+use Rattle.vss_catalog.proofs.Steps.{number-back, length-number_bytes}
 use Rattle.image_store.specs.Closing.{IsCloseFault, OneRose, given_back}
-use Rattle.image_store.specs.Head.{HeadValue, said_of}
-use Rattle.image_store.specs.Keeping.{IsKeptAs, blocks_of}
+use Rattle.image_store.specs.Head.{HeadValue, said_of, head_bytes, bytes_of_head, IsKeptAs, blocks_of}
 use Rattle.image_store.specs.Plain.{PlainStore, plains_of}
 use Rattle.image_store.specs.StoreValue.{StoreValue, HasPlains, StandsAs, StandsStill}
 use Rattle.image_store.proofs.Plains.{same_lists, synced_kept, told_blocks}
 use Rattle.image_store.proofs.Stores.{store_of}
+
+-- ## What lasts of a store that is closed, and what a store is that is opened again.
 
 -- ## devices are flushed one after another
 
@@ -238,3 +241,50 @@ opened_stands {D = D} told devices device area head s p same loaded volumes grou
       last = kept.last ∙ sym last;
       given = kept.given;
     }
+
+-- ## What lasts of a store that is closed is what the next opening takes up.
+
+-- ## the bytes of a head say one head
+
+said_catalog : (last : ℕ) (es : List EntryValue) → drop 16 (head_bytes last es) ≡ bytes_of es
+unfolding head_bytes
+said_catalog last es =
+    let two = length-append (codes "VSSIMG01" ++ number_bytes last) (number_bytes (length (bytes_of es))) in
+    let three = length-number_bytes last in
+    let four = length-number_bytes (length (bytes_of es)) in
+    drop_at (codes "VSSIMG01" ++ number_bytes last ++ number_bytes (length (bytes_of es))) (bytes_of es) 16 (omega arith)
+
+said_last : (last : ℕ) (es : List EntryValue) → last < 4294967296 → number_in 0 (drop 8 (head_bytes last es)) ≡ Ok last
+unfolding head_bytes
+said_last last es l = grind (arith, append_assoc, drop_at, number-back)
+
+pub same_head : (h s : HeadValue) → bytes_of_head h ≡ bytes_of_head s → catalog_in (bytes_of h.entries) ≡ Ok h.entries → catalog_in (bytes_of s.entries) ≡ Ok s.entries → h.last < 4294967296
+    → s.last < 4294967296 → h ≡ s
+same_head h s same read_h read_s low_h low_s = grind (arith, said_catalog, said_last)
+
+-- ## devices that tell what lasted
+
+pub found : {D : Type 0} (ghosts : Ghosts D) (devices later : List D) (area again : D) (head said : HeadValue) (p : PlainStore) → head ≡ said
+    → IsKeptAs ghosts.lasting devices area said p
+    → map ghosts.told later ≡ map ghosts.lasting devices → ghosts.told again ≡ ghosts.lasting area → IsKeptAs ghosts.told later again head p
+found {D = D} ghosts devices later area again head said p same kept tells slots =
+    let many : length later ≡ length devices = sym (length-map later ghosts.told) ∙ ap length tells ∙ length-map devices ghosts.lasting in
+    subst (λ (h : HeadValue). IsKeptAs ghosts.told later again h p) (sym same)
+    (record {
+      hs = kept.hs;
+      last = kept.last;
+      devices_are = many ∙ kept.devices_are;
+      histories = kept.histories;
+      each = λ v d e h at is of.
+          let within = slice_get_within later v d at in
+          let x = slice_get_inside devices v (omega arith) in
+          let held : ghosts.told d ≡ ghosts.lasting x.0 = same_Some (ghosts.told d) (ghosts.lasting x.0)
+          (sym (slice_get_map ghosts.told later v d at) ∙ ap (λ (ts : List (Option (List (List ℕ)))). slice_get ts v) tells
+          ∙ slice_get_map ghosts.lasting devices v x.0 x.1) in
+          let volume = kept.each v x.0 e h x.1 is of in
+          record { blocks = held ∙ volume.blocks; sets = volume.sets; images = volume.images };
+      tells = ap is_some slots ∙ kept.tells;
+      stored = subst (λ (t : Option (List (List ℕ))). AreStored t (copies (placed (blocks_of said.entries)) kept.hs)) (sym slots) kept.stored;
+      given = kept.given;
+      volumes = kept.volumes;
+    })

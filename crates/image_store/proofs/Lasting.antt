@@ -1,5 +1,5 @@
 -- What holds of every list of steps: an image that stays is that of its cut.
-use Rattle.std.proofs.Common.{◌≡◌, ◌≢◌, ℕ, zero, suc, ◌<◌, List, [], ◌∷◌, ◌++◌, length, map, refl, ap, sym, subst, ◌∙◌, arith, Bool, true, false, ◌||◌, Option, Some, None}
+use Rattle.std.proofs.Common.{◌≡◌, ◌≢◌, ℕ, zero, suc, ◌<◌, List, [], ◌∷◌, ◌++◌, length, map, refl, ap, ◌∙◌, arith, Bool, true, false, ◌||◌, Some, None}
 use Rattle.std.specs.Prelude.{◌==◌, ◌&&◌, not, filter, nat_lt, nat_le, if◌then◌else◌}
 use Rattle.std.proofs.lemmas.Bool.Decides.{nat_tests}
 use Rattle.std.proofs.lemmas.List.{length-map}
@@ -59,30 +59,19 @@ has-all v set f [] blocks h has = cc
 has-all zero set f (p ∷ ps) blocks h has = h p has
 has-all (suc v) set f (p ∷ ps) blocks h has = has-all v set f ps blocks h has
 
--- images that are pushed come behind it
-push-if : (t : Bool) (here blocks : List (List ℕ)) (o q : Option (List (List ℕ))) → (if t then Some here else o) ≡ Some blocks → (o ≡ Some blocks → q ≡ Some blocks)
-    → (if t then Some here else q) ≡ Some blocks
-push-if t here blocks o q e h = grind arith
-
 has-push : (set : ℕ) (ks : List Kept) (k : Kept) (blocks : List (List ℕ)) → image_in set ks ≡ Some blocks → image_in set (ks ++ k ∷ []) ≡ Some blocks
 has-push set [] k blocks e = cc
-has-push set (j ∷ ks) k blocks e = push-if (j.set == set) j.blocks blocks (image_in set ks) (image_in set (ks ++ k ∷ [])) e (has-push set ks k blocks)
+has-push set (j ∷ ks) k blocks e = grind (arith, has-push set ks k blocks)
 
 has-each : (vs : List ℕ) (v set other : ℕ) (ps : List Plain) (blocks : List (List ℕ)) → Has ps set v blocks → Has (on_each vs (cut_on other) ps) set v blocks
 has-each [] v set other ps blocks has = has
 has-each (u ∷ vs) v set other ps blocks has = has-each vs v set other (on_volume u (cut_on other) ps) blocks
     (has-on u v set (cut_on other) ps blocks (λ e. has-push set (volume_in ps v).images (record { set = other; blocks = (volume_in ps v).blocks }) blocks has) has)
 
--- images that are taken out are others
-filter-if : (t : Bool) (set : ℕ) (k : Kept) (xs : List Kept) (blocks : List (List ℕ)) (o : Option (List (List ℕ))) → (k.set ≡ set → t ≡ true)
-    → (if k.set == set then Some k.blocks else o) ≡ Some blocks
-    → (o ≡ Some blocks → image_in set xs ≡ Some blocks) → image_in set (if t then k ∷ xs else xs) ≡ Some blocks
-filter-if t set k xs blocks o stays e h = grind (arith, push-if, same_number)
-
 has-filter : (test : Kept → Bool) (set : ℕ) (ks : List Kept) (blocks : List (List ℕ)) → ((k : Kept) → k.set ≡ set → test k ≡ true) → image_in set ks ≡ Some blocks
     → image_in set (filter test ks) ≡ Some blocks
 has-filter test set [] blocks stays e = cc
-has-filter test set (k ∷ ks) blocks stays e = filter-if (test k) set k (filter test ks) blocks (image_in set ks) (stays k) e (has-filter test set ks blocks stays)
+has-filter test set (k ∷ ks) blocks stays e = grind (arith, same_number, stays k, has-filter test set ks blocks stays)
 
 -- ## a step in which it does not go
 
@@ -152,13 +141,7 @@ cut-each (u ∷ vs) v set ps l none e = by_test (u == v) refl e (cut-each vs v s
       → (v < length (on_volume u (cut_on set) ps) → image_in set (volume_in (on_volume u (cut_on set) ps) v).images ≡ None → is_among v vs ≡ true
       → Has (on_each vs (cut_on set) (on_volume u (cut_on set) ps)) set v (volume_in (on_volume u (cut_on set) ps) v).blocks)
       → Has (on_each vs (cut_on set) (on_volume u (cut_on set) ps)) set v (volume_in ps v).blocks
-  by_test true is f rest =
-      has-each vs v set set (on_volume u (cut_on set) ps) (volume_in ps v).blocks
-      (subst (λ (w : ℕ). Has (on_volume w (cut_on set) ps) set v (volume_in ps v).blocks) (sym (same_number u v is)) (cut-on v set ps l none))
-  by_test false is f rest =
-      let same = other-on u v (cut_on set) ps (other_number u v is) in
-      subst (λ (p : Plain). Has (on_each vs (cut_on set) (on_volume u (cut_on set) ps)) set v p.blocks) same
-      (rest (subst (λ (n : ℕ). v < n) (sym (length-on u (cut_on set) ps)) l) (ap (λ (p : Plain). image_in set p.images) same ∙ none) f)
+  by_test t is f rest = grind (arith, has-each, same_number, cut-on, other-on, other_number, length-on)
 
 pub images_of_cuts : ImagesAreOfTheirCut
 images_of_cuts s earlier later set v vs all l among stay =

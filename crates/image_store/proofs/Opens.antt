@@ -1,26 +1,62 @@
--- What is compared before a store is taken up.
-use Rattle.std.proofs.Common.{◌≢◌, ◌≤◌, subst, Option, ◌≡◌, ℕ, suc, ◌+◌, ◌<◌, List, [], ◌∷◌, ◌++◌, length, map, take, refl, ap, sym, ◌∙◌, arith, true, false, Some}
-use Rattle.std.specs.Prelude.{slice_index, All, ◌&&◌, ◌==◌, slice_get}
-use Rattle.std.specs.Str.{bytes_eq}
+-- The sets of the images of a group, what is compared before a store is taken up, and the capture of a file that stands still.
+use Rattle.std.proofs.Common.{◌≡◌, ℕ, zero, suc, ◌+◌, ◌<◌, ◌≤◌, List, [], ◌∷◌, length, refl, ap, arith, Bool, true, Some, ◌≢◌, subst, Option, ◌++◌, map, take}
+use Rattle.std.proofs.Common.{sym, ◌∙◌, false}
+use Rattle.std.proofs.lemmas.Bool.{cases_lt, and_from}
 use Rattle.std.proofs.lemmas.List.{map-append, length-map}
-use Rattle.std.proofs.lemmas.Option.{get_or_from_slice_get, slice_get_within}
+use Rattle.std.proofs.lemmas.Option.{slice_get_within, slice_get_past, get_or_from_slice_get}
 use Rattle.std.proofs.lemmas.Slice.Eq.{bytes_eq-Decides}
-use Rattle.std.proofs.lemmas.Bool.{and_from}
-use Rattle.diff_map.specs.MapValue.{AreImages}
-use Rattle.vss_catalog.proofs.ResumedLists.{catalog_lists}
-use Rattle.vss_names.specs.TextValue.{TextValue}
-use Rattle.vss_catalog.specs.Allowed.{IsCatalog, AreEntries}
-use Rattle.vss_catalog.specs.Entries.{EntryValue, lists_of}
-use Rattle.vss_names.specs.Names.{is_name}
-use Rattle.vss_catalog.specs.Names.{are_names}
-use Rattle.cow_volume.proofs.Group.{number_is, other_number, same_number, slice_get_inside, slice_get_map}
-use Rattle.cow_volume.proofs.Reverting.{take_next}
-use Rattle.image_store.specs.Keeping.{blocks_of}
-use Rattle.image_store.proofs.Sets.{place_is}
+use Rattle.std.specs.Prelude.{◌⊎◌, All, slice_get, slice_index, slice_index_or, ◌&&◌, ◌==◌, IfSome, option_map, slice_set}
+use Rattle.std.specs.Str.{bytes_eq}
+use Rattle.vss_names.specs.Names.{is_name, TextValue}
+use Rattle.volume_device.specs.InMemory.{AreBlocks}
+use Rattle.diff_map.specs.Copies.{AreImages}
 use Rattle.diff_area.specs.AreaValue.{AreaValue}
+use Rattle.cow_volume.specs.Calls.{is_among, sets_at}
+use Rattle.cow_volume.specs.StandsFor.{GroupValue}
 use Rattle.cow_volume.specs.Resuming.{IsResumeFault}
 use Rattle.cow_volume.specs.declared.resume_fault.ResumeFault.{ResumeFault}
+use Rattle.cow_volume.proofs.Group.{number_is, other_number, same_number, slice_get_inside, slice_get_map, slice_get-set_same, slice_get-set_other}
+use Rattle.cow_volume.proofs.Reverting.{take_next}
+use Rattle.vss_catalog.specs.Entries.{IsCatalog, AreEntries, EntryValue, lists_of, are_names}
+use Rattle.vss_catalog.proofs.Groups.{catalog_lists}
+use Rattle.image_store.specs.Updating.{AreCaptured, Gives, HasCaptured, HasOneCaptured, AreReady}
+use Rattle.image_store.specs.Cutting.{IsGiven}
+use Rattle.image_store.specs.Head.{blocks_of}
 use Rattle.image_store.specs.Opening.{IsPartsFault, of_resume, AreSame, AreWell, IsNameNew, names_of}
+
+-- ## The sets of the images of a group, volume by volume.
+
+pub place_is : (xs : List ℕ) (i : ℕ) → i < length xs → slice_get xs i ≡ Some (slice_index xs i)
+place_is [] i l = absurd (omega arith)
+place_is (x ∷ xs) zero l = refl
+place_is (x ∷ xs) (suc i) l = place_is xs i (omega arith)
+
+pub get_is : (xs : List ℕ) (i x : ℕ) → slice_get xs i ≡ Some x → x ≡ slice_index xs i
+get_is xs i x at = grind (arith, place_is, slice_get_within)
+
+-- a mark
+pub flag_is : (xs : List Bool) (i : ℕ) (d t : Bool) → i < length xs → slice_index_or xs i d ≡ t → slice_get xs i ≡ Some t
+flag_is [] i d t l e = absurd (omega arith)
+flag_is (x ∷ xs) zero d t l e = ap Some e
+flag_is (x ∷ xs) (suc i) d t l e = flag_is xs i d t (omega arith) e
+
+pub at_or_below : (b k : ℕ) → b < k + 1 → (b ≡ k) ⊎ (b < k)
+at_or_below b k l = grind arith
+
+-- one more volume
+pub sets_more : {D : Type 0} (g : GroupValue D) (n greatest newest result : ℕ) (sets : List ℕ) → ((v : ℕ) → v < n → All (λ s. s ≤ greatest) (sets_at g v)) → All (λ s. s ≤ newest) sets
+    → sets ≡ sets_at g n
+    → greatest ≤ result → newest ≤ result → (v : ℕ) → v < n + 1 → All (λ s. s ≤ result) (sets_at g v)
+sets_more g n greatest newest result sets before here are first second v l = grind (arith, at_or_below)
+
+pub sets_all : {D : Type 0} (g : GroupValue D) (n greatest : ℕ) → length g.images ≤ n → ((v : ℕ) → v < n → All (λ s. s ≤ greatest) (sets_at g v)) → (v : ℕ) → All (λ s. s ≤ greatest) (sets_at g v)
+sets_all g n greatest all before v = grind (arith, cases_lt, slice_get_past)
+
+pub given_more : {D : Type 0} (g : GroupValue D) (last n greatest newest result : ℕ) (sets : List ℕ) → IsGiven g last greatest → (result ≡ greatest) ⊎ ((result ≡ newest) × (0 < newest))
+    → (0 < newest → is_among newest sets ≡ true) → sets ≡ sets_at g n → IsGiven g last result
+given_more g last n greatest newest result sets given x8 among are = grind arith
+
+-- ## What is compared before a store is taken up.
 
 -- ## the same numbers
 
@@ -114,3 +150,71 @@ taken_named names es volumes same blocks allowed = grind (arith, length-map, and
 pub resume_fault : {D : Type 0} (size : D → ℕ) (devices : List D) (area : AreaValue D) (es : List EntryValue) (fault : ResumeFault) → area.volumes ≡ blocks_of es → map size devices ≡ blocks_of es
     → IsResumeFault area.records (lists_of es) fault → IsPartsFault size devices area es (of_resume fault)
 resume_fault size devices area es fault volumes sizes is = grind arith
+
+-- ## The capture of a file that stands still.
+
+-- the mark of a block that was just set
+set_mark : (differs : List Bool) (k : ℕ) (mark m : Bool) → k < length differs → slice_get (slice_set differs k mark) k ≡ Some m → mark ≡ m
+set_mark differs k mark m l at =
+    let found = slice_get_inside differs k l in
+    let there : Some mark ≡ Some m = sym (slice_get-set_same differs k found.0 mark found.1) ∙ at in
+    cc
+
+-- one more block is captured
+pub captured_more : (told : Option (List (List ℕ))) (differs : List Bool) (mark : Bool) (spool wanted blocks : List (List ℕ)) (k : ℕ) → k < length differs
+    → AreCaptured differs spool wanted blocks k → HasOneCaptured told mark k spool wanted blocks → HasCaptured told (slice_set differs k mark) wanted blocks (k + 1)
+captured_more told differs mark spool wanted blocks k l so one = record {
+  spool = one.spool;
+  told_is = one.told_is;
+  captured = record {
+    rest = λ b low at. rest b at (at_or_below b k (omega arith));
+    marked = λ b low at. marked b at (at_or_below b k (omega arith));
+  };
+} where
+  rest : (b : ℕ) → slice_get (slice_set differs k mark) b ≡ Some false → (b ≡ k) ⊎ (b < k) → slice_get blocks b ≡ slice_get wanted b
+  rest b at x2 = grind (arith, set_mark, slice_get-set_other)
+
+  marked : (b : ℕ) → slice_get (slice_set differs k mark) b ≡ Some true → (b ≡ k) ⊎ (b < k) → slice_get one.spool b ≡ slice_get wanted b
+  marked b at x2 = grind (arith, set_mark, slice_get-set_other)
+
+-- there are no more blocks up to here
+pub captured_to : (told : Option (List (List ℕ))) (differs : List Bool) (wanted blocks : List (List ℕ)) (k to : ℕ) → ((b : ℕ) → b < to → b < length differs → b < k)
+    → HasCaptured told differs wanted blocks k → HasCaptured told differs wanted blocks to
+captured_to told differs wanted blocks k to all so = record {
+  spool = so.spool;
+  told_is = so.told_is;
+  captured = record {
+    rest = λ b low at. so.captured.rest b (all b low (slice_get_within differs b false at)) at;
+    marked = λ b low at. so.captured.marked b (all b low (slice_get_within differs b true at)) at;
+  };
+}
+
+-- what is captured to the end may be taken by the volume
+pub captured_ready : (differs : List Bool) (spool wanted blocks : List (List ℕ)) (to : ℕ) → length differs ≡ length blocks → length wanted ≡ length blocks
+    → length blocks ≤ to → AreCaptured differs spool wanted blocks to → AreReady differs wanted blocks 0
+captured_ready differs spool wanted blocks to marks as_many all so = grind (arith, slice_get_within)
+
+pub captured_gives : (told : Option (List (List ℕ))) (differs : List Bool) (wanted blocks : List (List ℕ)) (to : ℕ) → length differs ≤ to
+    → HasCaptured told differs wanted blocks to → Gives told differs wanted
+captured_gives told differs wanted blocks to all so = grind (arith, slice_get_within)
+
+-- a block that is not written to the spool is the volume's own
+pub one_left : (told input : Option (List (List ℕ))) (b : ℕ) (before wanted blocks : List (List ℕ)) (piece other : List ℕ) → told ≡ Some before
+    → slice_get blocks b ≡ Some piece → input ≡ Some wanted → IfSome input (λ from. slice_get from b ≡ Some other) → piece ≡ other
+    → HasOneCaptured told false b before wanted blocks
+one_left told input b before wanted blocks piece other told_is here is read same = grind arith
+
+-- one that is written to it is there
+pub one_put : (old new input : Option (List (List ℕ))) (size b : ℕ) (before wanted blocks : List (List ℕ)) (other : List ℕ) → old ≡ Some before → IfSome old (AreBlocks size)
+    → b < size → new ≡ option_map (λ all. slice_set all b other) old → input ≡ Some wanted → IfSome input (λ from. slice_get from b ≡ Some other)
+    → HasOneCaptured new true b before wanted blocks
+one_put old new input size b before wanted blocks other old_is whole l written is read =
+    let many = (subst (λ (o : Option (List (List ℕ))). IfSome o (AreBlocks size)) old_is whole).number in
+    let found = slice_get_inside before b (omega arith) in
+    record {
+      spool = slice_set before b other;
+      told_is = written ∙ ap (option_map (λ (all : List (List ℕ)). slice_set all b other)) old_is;
+      others = λ i m. slice_get-set_other before b i other (λ e. m (sym e));
+      rest = λ e. absurd (cc);
+      marked = λ e. grind (arith, slice_get-set_same);
+    }

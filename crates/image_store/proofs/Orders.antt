@@ -1,5 +1,5 @@
 -- The calls of an update, as relations to the store that it began with.
-use Rattle.std.proofs.Common.{◌≡◌, ◌≢◌, ℕ, ◌+◌, ◌<◌, ◌≤◌, List, [], ◌∷◌, ◌++◌, length, take, drop, refl, sym, subst, ap, ◌∙◌, arith, Bool, true, false, Option}
+use Rattle.std.proofs.Common.{◌≡◌, ◌≢◌, ℕ, ◌+◌, ◌<◌, ◌≤◌, List, [], ◌∷◌, ◌++◌, length, take, drop, refl, sym, subst, ap, ◌∙◌, arith, Bool, true, Option}
 use Rattle.std.proofs.Common.{Some, None, inl, inr}
 use Rattle.std.specs.Prelude.{◌⊎◌, ◌&&◌, ◌==◌, nat_lt, slice_get, slice_set, Result, Ok, Err, IfOk, OnOk}
 use Rattle.std.proofs.lemmas.Bool.{cases_lt}
@@ -9,27 +9,24 @@ use Rattle.std.proofs.lemmas.Map.Views.{any-filter_same}
 use Rattle.std.proofs.lemmas.Option.{same_Some, slice_get_within}
 use Rattle.volume_device.specs.declared.device.Device.{Ghosts}
 use Rattle.write_history.specs.declared.evicted.Evicted.{Evicted}
-use Rattle.diff_map.specs.MapValue.{AreImages}
-use Rattle.cow_volume.specs.GroupValue.{GroupValue}
+use Rattle.diff_map.specs.Copies.{AreImages}
+use Rattle.cow_volume.specs.StandsFor.{GroupValue}
 use Rattle.cow_volume.specs.Calls.{blocks_at, is_among, sets_at, sets_in}
 use Rattle.cow_volume.specs.Room.{after as sets_after_of}
 use Rattle.cow_volume.proofs.Group.{same_number, slice_get_inside, slice_get_map, slice_get-set_other, slice_get-set_same}
 use Rattle.cow_volume.proofs.MakingRoom.{sets_after}
-use Rattle.image_store.specs.Aims.{aim_of, aims_of, AreCopiedSoFar, AreAtTheirEnd}
+use Rattle.image_store.specs.Ordering.{aim_of, aims_of, AreCopiedSoFar, AreAtTheirEnd, Aim, OfEach, AreApart, IsReady, IsBrought, IsCopied, without, HasBut}
+use Rattle.image_store.specs.Ordering.{MayOverwrite, AllImages, IsFurther, HasMore, IsCopyPass, IsHeld, IsWritten, IsOverwrite, AreAllWritten, AreOverwritten}
+use Rattle.image_store.specs.Ordering.{AreBrought, OpensBut, HoldsBut, CoversBut, IsHeadOf, FoundBut}
 use Rattle.image_store.specs.declared.job.Job.{Job}
-use Rattle.image_store.specs.Capturing.{Gives}
+use Rattle.image_store.specs.Updating.{Gives, AreReady, IsOverwriting, IsStopped}
 use Rattle.image_store.specs.Copying.{AreCopied, HasCopiesOf, IsAreaLeft, IsAreaSame, IsStoppedAt}
 use Rattle.image_store.specs.Head.{head_of}
-use Rattle.image_store.specs.Ordering.{Aim, OfEach, AreApart, IsReady, IsBrought, IsCopied}
-use Rattle.image_store.specs.Ordering.{without, HasBut, MayOverwrite, AllImages, IsFurther, HasMore, IsCopyPass}
-use Rattle.image_store.specs.Ordering.{IsHeld, IsWritten, IsOverwrite, AreAllWritten, AreOverwritten}
-use Rattle.image_store.specs.Ordering.{AreBrought, OpensBut, HoldsBut, CoversBut, IsHeadOf, FoundBut}
 use Rattle.image_store.specs.Plain.{Plain, PlainStore, plain_at, image_of, changed, with_blocks}
 use Rattle.image_store.specs.PowerLoss.{IsCommitted, IsUnderWay, IsStillUnderWay, IsShared, KeepsBlocks}
 use Rattle.image_store.specs.Steps.{after}
 use Rattle.image_store.specs.Steps.Step.{Gone}
 use Rattle.image_store.specs.StoreValue.{StoreValue, StandsAs, StandsStill}
-use Rattle.image_store.specs.Updating.{AreReady, IsOverwriting, IsStopped}
 use Rattle.image_store.specs.declared.pass.Pass.{Pass}
 use Rattle.image_store.specs.declared.pass.Pass.TheVariants.{Done, Evicted as Stopped}
 use Rattle.image_order.specs.declared.copied.Copied.{Copied}
@@ -38,7 +35,7 @@ use Rattle.image_store.proofs.Copied.{area_kept, copied_gone, copied_kept, copie
 use Rattle.image_store.proofs.Origins.{back-step}
 use Rattle.image_store.proofs.Plains.{as_many_plains, image_there, same_lists, volume_on}
 use Rattle.image_store.proofs.PowerLoss.{opens_found}
-use Rattle.image_store.proofs.Sets.{at_or_below}
+use Rattle.image_store.proofs.Opens.{at_or_below}
 use Rattle.image_store.proofs.UnderWay.{gone_blocks, other_volume, same_or_other}
 
 -- ## what stays
@@ -63,10 +60,7 @@ begun told g = record {
 }
 
 images_at : {D : Type 0} (g : GroupValue D) (v : ℕ) → AllImages g → AreImages (sets_at g v)
-images_at g v all = by_place (slice_get g.images v) refl where
-  by_place : (o : Option (List ℕ)) → slice_get g.images v ≡ o → AreImages (sets_in o)
-  by_place None at = record { ascend = λ i j d l m. absurd (omega arith); above_zero = λ k d l. absurd (omega arith); few = omega arith }
-  by_place (Some sets) at = all v sets at
+images_at g v all = (grind arith)
 
 -- ## images that went
 
@@ -77,10 +71,7 @@ without_then (up_to ∷ later) gone p = ap (λ q. after q (Gone up_to)) (without
 -- an image is as it was, or went
 image_then : (p q : PlainStore) (set v : ℕ) → ((blocks : List (List ℕ)) → image_of q set v ≡ Some blocks → image_of p set v ≡ Some blocks)
     → (image_of q set v ≡ image_of p set v) ⊎ (image_of q set v ≡ None)
-image_then p q set v back = by_image (image_of q set v) refl where
-  by_image : (o : Option (List (List ℕ))) → image_of q set v ≡ o → (image_of q set v ≡ image_of p set v) ⊎ (image_of q set v ≡ None)
-  by_image None is = inr is
-  by_image (Some blocks) is = inl (is ∙ sym (back blocks is))
+image_then p q set v back = (grind arith)
 
 gone_back : (p : PlainStore) (up_to set v : ℕ) (blocks : List (List ℕ)) → image_of (after p (Gone up_to)) set v ≡ Some blocks → image_of p set v ≡ Some blocks
 gone_back p up_to set v blocks is = elim (back-step p (Gone up_to) set v blocks tt is) [ inl still ↦ still.0 | inr here ↦ (let cut = here.1 in cc) ]
@@ -111,8 +102,7 @@ pub among_after : (up_to set : ℕ) (sets : List ℕ) → is_among set (sets_aft
 among_after up_to set sets is = both (nat_lt up_to set) (is_among set sets)
     (sym (any-filter_same (λ s. s == set) (λ s. nat_lt up_to s) (nat_lt up_to set) (λ s e. ap (nat_lt up_to) (same_number s set e)) sets) ∙ is) where
       both : (a b : Bool) → (a && b) ≡ true → b ≡ true
-      both true b e = e
-      both false b e = absurd (cc)
+      both a b e = grind arith
 
 -- ## the second pass
 
@@ -278,13 +268,9 @@ has_left : {D : Type 0} (told : D → Option (List (List ℕ))) (now : StoreValu
     → (set v : ℕ) → is_among set (sets_at now.group v) ≡ true → image_of (without gone p) set v ≡ image_of p set v
 has_left told now gone p stands set v is = elim (without_image gone p set v) [
   | inl same ↦ same
-  | inr none ↦ (let there = image_there told now.group (without gone p).volumes v set stands.group (within (slice_get now.group.images v) refl) is in
+  | inr none ↦ (let there = image_there told now.group (without gone p).volumes v set stands.group (grind (arith, slice_get_within)) is in
       let both : None ≡ Some there.0 = sym none ∙ there.1 in cc)
-] where
-  within : (o : Option (List ℕ)) → slice_get now.group.images v ≡ o → v < length now.group.area.volumes
-  within None at = (let none : is_among set (sets_at now.group v) ≡ false = ap
-      (λ (x : Option (List ℕ)). is_among set (sets_in x)) at in let both : true ≡ false = sym is ∙ none in cc)
-  within (Some sets) at = (let place = slice_get_within now.group.images v sets at in let many = stands.group.stands.images in omega arith)
+]
 
 pub synced_holds : {D : Type 0} (told : D → Option (List (List ℕ))) (aims : List Aim) (old new : StoreValue D) (p : PlainStore) → StandsStill told old new
     → ((q : PlainStore) → StandsAs told old q → IsCommitted told new q) → MayOverwrite told aims old p → HoldsBut told new (head_of new) p
@@ -337,10 +323,7 @@ same_wanted p aim a b = same_lists a.wanted b.wanted (a.ready.as_many ∙ sym b.
     within k x at = (let l = slice_get_within a.wanted k x at in let as_many = a.ready.as_many in let marks = a.ready.marks in omega arith)
 
     by_mark : (k : ℕ) → (m : Bool) × (slice_get aim.differs k ≡ Some m) → slice_get a.wanted k ≡ slice_get b.wanted k
-    by_mark k (true, at) = sym (a.gives.marked k at)
-        ∙ ap (λ (list : List (List ℕ)). slice_get list k) (same_Some a.gives.source b.gives.source
-        (sym a.gives.told_is ∙ b.gives.told_is)) ∙ b.gives.marked k at
-    by_mark k (false, at) = sym (a.ready.rest k at) ∙ b.ready.rest k at
+    by_mark k m = grind (arith, same_Some)
 
 -- one volume
 pub job_written : {D E F : Type 0} (told : D → Option (List (List ℕ))) (old new : StoreValue D) (t : Option (List (List ℕ))) (aim : Aim) (list : List Evicted)
@@ -472,8 +455,7 @@ overwrite_opens told aims old new h p r call covers =
       head = opens.head;
       committed = opens.committed;
       under_way = one.1.under_way;
-      left = λ set v is. opens.left set v
-          (subst (λ (i : List (List ℕ)). is_among set (sets_in (slice_get i v)) ≡ true) (one.1.copies.images ∙ sym covers.holds.copies.images) is);
+      left = λ set v is. grind arith;
     }
 
 -- the volumes have what was wanted of them
@@ -546,9 +528,8 @@ pub record AreFlushed {D : Type 0} (ghosts : Ghosts D) (k : ℕ) (old now : Stor
 
 pub further_of : {D E : Type 0} (told : D → Option (List (List ℕ))) (old new : StoreValue D) (r : Result Copied E) → IsCopyPass told old new r
     → IsFurther told old new
-further_of told old new (Ok Whole) pass = pass.further
 further_of told old new (Ok UntilEvicted) pass = pass
-further_of told old new (Err failed) pass = pass.further
+further_of told old new _ pass = pass.further
 
 -- the next job is gone on with: what is copied of all jobs is still
 pub so_far_next : {D I : Type 0} (told : D → Option (List (List ℕ))) (told_in : I → Option (List (List ℕ))) (now next : StoreValue D) (k : ℕ)
@@ -558,11 +539,8 @@ pub so_far_next : {D I : Type 0} (told : D → Option (List (List ℕ))) (told_i
     → AreCopiedSoFar now.group jobs → AreCopiedSoFar next.group (slice_set jobs k later)
 so_far_next {I = I} told told_in now next k jobs before later at same further own had = λ j job there. elim (same_or_other j k) [
   | inl here ↦ (
-      let is : later ≡ job = same_Some later job
-      (sym (slice_get-set_same jobs k before later at) ∙ ap (λ i. slice_get (slice_set jobs k later) i) (sym here) ∙ there) in
-      let copied : AreCopied next.group before.volume before.differs.items 0 later.at = own (had k before at) in
-      let of_later : AreCopied next.group later.volume later.differs.items 0 later.at =
-      subst (λ (a : Aim). AreCopied next.group a.volume a.differs 0 later.at) (sym same) copied in
+      let is : later ≡ job = grind (arith, same_Some, slice_get-set_same) in
+      let of_later : AreCopied next.group later.volume later.differs.items 0 later.at = grind arith in
       subst (λ (x : Job I). AreCopied next.group x.volume x.differs.items 0 x.at) is of_later
       )
   | inr other ↦ further.copied job.volume job.at job.differs.items (had j job (sym (slice_get-set_other jobs k j later (λ e. other (sym e))) ∙ there))
@@ -574,8 +552,7 @@ pub ends_next : {I : Type 0} (k : ℕ) (jobs : List (Job I)) (before later : Job
     → (j : ℕ) (job : Job I) → j < k + 1 → slice_get (slice_set jobs k later) j ≡ Some job → length job.differs.items ≤ job.at
 ends_next {I = I} k jobs before later at own had j job low there = elim (at_or_below j k low) [
   | inl here ↦ (
-      let is : later ≡ job = same_Some later job
-      (sym (slice_get-set_same jobs k before later at) ∙ ap (λ i. slice_get (slice_set jobs k later) i) (sym here) ∙ there) in
+      let is : later ≡ job = grind (arith, same_Some, slice_get-set_same) in
       subst (λ (x : Job I). length x.differs.items ≤ x.at) is own
       )
   | inr below ↦ had j job below (sym (slice_get-set_other jobs k j later (λ e. absurd (omega (arith, e)))) ∙ there)

@@ -1,25 +1,90 @@
--- What holds of every list of steps: where an image comes from.
-use Rattle.std.proofs.Common.{◌≡◌, ◌≢◌, ℕ, zero, suc, ◌<◌, ◌≤◌, List, [], ◌∷◌, ◌++◌, length, map, refl, ap, sym, subst, ◌∙◌, arith, append_assoc, Bool, true, false, ◌||◌, Option, Some, None, inl, inr}
-use Rattle.std.specs.Prelude.{◌==◌, ◌&&◌, ◌⊎◌, not, filter, nat_lt, nat_le, if◌then◌else◌, Result, Ok, Err, OnOk, IfOk}
+-- What holds of every list of steps: where an image comes from; and a file that is read back of whole blocks.
+use Rattle.std.proofs.Common.{◌≡◌, ℕ, zero, suc, ◌+◌, ◌-◌, ◌*◌, ◌<◌, ◌≤◌, List, [], ◌++◌, length, map, take, drop, ap, sym, ◌∙◌, arith, append_assoc, ◌≢◌, ◌∷◌}
+use Rattle.std.proofs.Common.{refl, subst, Bool, true, false, ◌||◌, Option, Some, None, inl, inr}
+use Rattle.std.proofs.Math.Seq.{take-add, take-append_seam}
 use Rattle.std.proofs.lemmas.Bool.Decides.{nat_tests}
+use Rattle.std.proofs.lemmas.List.{append-nil, drop-drop, drop_at, length-append, length-drop, take_all}
+use Rattle.std.proofs.lemmas.List.FromFn.{length-map-range_with_len}
 use Rattle.std.proofs.lemmas.Option.{same_Some}
+use Rattle.std.specs.List.{concat, range_with_len}
+use Rattle.std.specs.Prelude.{slice_get, ◌==◌, ◌&&◌, ◌⊎◌, not, filter, nat_lt, if◌then◌else◌, Result, Ok, Err, OnOk, IfOk}
+use Rattle.byteorder.specs.Endian.{little_bytes, little_number}
+use Rattle.byteorder.specs.Numbers.{little_number-reads_back}
+use Rattle.block_data.specs.BlockBytes.{run_of}
+use Rattle.block_data.specs.declared.block_buf.TheConstants.{BLOCK}
+use Rattle.block_data.proofs.RunsOfBytes.{length-run_of}
 use Rattle.volume_device.specs.declared.device.Device.{Ghosts}
+use Rattle.diff_area.proofs.ByPlace.{get-map_range}
 use Rattle.cow_volume.specs.Calls.{is_among}
 use Rattle.cow_volume.proofs.Group.{same_number, other_number, number_is_other}
-use Rattle.image_store.specs.FileBytes.{file_in}
-use Rattle.image_store.specs.Head.{HeadValue}
-use Rattle.image_store.specs.Keeping.{IsKeptAs}
-use Rattle.image_store.specs.Plain.{Kept, Plain, PlainStore, plain_at, volume_in, image_in, image_of, on_volume, on_each, cut_on, gone_on, with_blocks, dropped_on, older_on, reverted_on}
+use Rattle.image_store.specs.Course.{AreTaken, CallsFollowOneAnother, ShownIsOfItsCut, ImagesComeOfCuts, IsCutIn, IsShowStep, SetsAreCutOnce, FilesComeBack}
+use Rattle.image_store.specs.FileBytes.{FitsIn, length_bytes, padded, block_in, blocks_of_file, number_in, length_in, file_in}
+use Rattle.image_store.specs.Head.{HeadValue, IsKeptAs}
+use Rattle.image_store.specs.Plain.{Kept, Plain, PlainStore, plain_at, volume_in, image_in, image_of, on_volume, on_each, cut_on, gone_on, with_blocks}
+use Rattle.image_store.specs.Plain.{dropped_on, older_on, reverted_on}
+use Rattle.image_store.specs.Showing.{IsShow, shown_in}
 use Rattle.image_store.specs.Steps.{Step, IsAllowed, AreAllowed, after, after_all, goes, stays}
 use Rattle.image_store.specs.Steps.Step.{Cut, Gone, Updated, UpdatedInPart, Dropped, Reverted, RevertedInPart, Shown, Read, Opened}
-use Rattle.image_store.specs.Course.{AreTaken, CallsFollowOneAnother, ShownIsOfItsCut, ImagesComeOfCuts, IsCutIn, IsShowStep, SetsAreCutOnce, FilesComeBack}
-use Rattle.image_store.specs.Showing.{IsShow, shown_in}
 use Rattle.image_store.specs.StoreValue.{StoreValue, StandsAs, StandsStill}
 use Rattle.image_store.specs.declared.show_fault.ShowFault.{ShowFault}
 use Rattle.image_store.specs.declared.which.Which.{Which}
 use Rattle.image_store.specs.declared.which.Which.TheVariants.{Now, Of}
-use Rattle.image_store.proofs.Files.{file_back}
 use Rattle.image_store.proofs.Lasting.{after-append, Has, allowed-append, as_many, as_many_after, cut-each, other-on}
+
+-- ## A file that is kept in whole blocks is read back of them.
+
+-- pieces of k bytes, one after another
+pieces : (k a n : ℕ) (xs : List ℕ) → concat (map (λ b. take k (drop (k * b) xs)) (range_with_len a n)) ≡ take (k * n) (drop (k * a) xs)
+pieces k a zero xs = let none : k * 0 ≡ 0 = omega arith in ap (λ m. take m (drop (k * a) xs)) (sym none)
+pieces k a (suc n) xs =
+    let more : k * suc n ≡ k + k * n = grind arith in
+    ap (λ ys. take k (drop (k * a) xs) ++ ys)
+    (pieces k (a + 1) n xs ∙ ap (λ m. take (k * n) (drop m xs)) (grind arith) ∙ ap (take (k * n)) (sym (drop-drop k (k * a) xs)))
+    ∙ sym (ap (λ m. take m (drop (k * a) xs)) more ∙ take-add k (k * n) (drop (k * a) xs))
+
+-- the last eight bytes of the last piece are those of all
+last_eight : (k n : ℕ) (xs : List ℕ) → 8 ≤ k → 0 < n → length xs ≡ k * n → drop (k - 8) (take k (drop (k * (n - 1)) xs)) ≡ drop (k * n - 8) xs
+last_eight k n xs enough some many = grind (arith, length-drop, take_all, drop-drop)
+
+-- all but the length
+abbrev front : ℕ → List ℕ → List ℕ
+front n file = file ++ run_of (BLOCK * n - 8 - length file) 0
+
+length_front : (n : ℕ) (file : List ℕ) → length file + 8 ≤ BLOCK * n → length (front n file) ≡ BLOCK * n - 8
+length_front n file room = grind (arith, length-append, length-run_of)
+
+length_padded : (n : ℕ) (file : List ℕ) → length file + 8 ≤ BLOCK * n → length (padded n file) ≡ BLOCK * n
+unfolding padded length_bytes
+length_padded n file room = grind (arith, length-append, length_front)
+
+length_back : (n len : ℕ) → len + 8 ≤ BLOCK * n → n ≤ 65536 → little_number 8 (length_bytes len) ≡ len
+unfolding length_bytes
+length_back n len room few = ap (little_number 8) (sym (append-nil (little_bytes 8 len))) ∙ little_number-reads_back 8 len [] (omega arith)
+
+length_of_file : (n : ℕ) (file : List ℕ) → FitsIn n file → length_in (blocks_of_file n file) ≡ length file
+unfolding length_in padded
+length_of_file n file fits =
+    let room = fits.0 in
+    let bytes = padded n file in
+    let some : 0 < n = omega arith in
+    let many = length-map-range_with_len (block_in bytes) 0 n in
+    ap (λ k. number_in (slice_get (blocks_of_file n file) (k - 1))) many
+    ∙ ap number_in (get-map_range (block_in bytes) 0 n (n - 1) (n - 1) (omega arith) (omega arith))
+    ∙ ap (little_number 8) (last_eight BLOCK n bytes (omega arith) some (length_padded n file room) ∙ drop_at (front n file) (length_bytes (length file)) (BLOCK * n - 8) (length_front n file room))
+    ∙ length_back n (length file) room fits.1
+
+pub file_back : (n : ℕ) (file : List ℕ) → FitsIn n file → file_in (blocks_of_file n file) ≡ file
+unfolding file_in padded
+file_back n file fits =
+    let bytes = padded n file in
+    let many = length_padded n file fits.0 in
+    let none : BLOCK * 0 ≡ 0 = omega arith in
+    let all : concat (blocks_of_file n file) ≡ bytes = pieces BLOCK 0 n bytes ∙ ap (λ m. take (BLOCK * n) (drop m bytes)) none ∙ take_all (BLOCK * n) bytes (omega arith) in
+    ap (λ m. take m (concat (blocks_of_file n file))) (length_of_file n file fits)
+    ∙ ap (take (length file)) (all ∙ append_assoc file (run_of (BLOCK * n - 8 - length file) 0) (length_bytes (length file)))
+    ∙ take-append_seam file (run_of (BLOCK * n - 8 - length file) 0 ++ length_bytes (length file))
+
+-- ## What holds of every list of steps: where an image comes from.
 
 -- ## what was there before one volume changed
 
@@ -37,26 +102,15 @@ back-all v set f t [] blocks h has = cc
 back-all zero set f t (p ∷ ps) blocks h has = h p has
 back-all (suc v) set f t (p ∷ ps) blocks h has = back-all v set f t ps blocks h has
 
--- images that are left of some were among them, and their set is one of those that are left
-filter-if : (keeps here : Bool) (f : ℕ → Bool) (set : ℕ) (k : Kept) (xs : List Kept) (o : Option (List (List ℕ))) (blocks : List (List ℕ)) → f k.set ≡ keeps → (k.set == set) ≡ here
-    → (image_in set xs ≡ Some blocks → (o ≡ Some blocks) × (f set ≡ true)) → image_in set (if keeps then k ∷ xs else xs) ≡ Some blocks
-    → ((if here then Some k.blocks else o) ≡ Some blocks) × (f set ≡ true)
-filter-if keeps here f set k xs o blocks kept is rest has = grind (arith, same_number)
-
 back-filter : (f : ℕ → Bool) (set : ℕ) (ks : List Kept) (blocks : List (List ℕ)) → image_in set (filter (λ k. f k.set) ks) ≡ Some blocks → (image_in set ks ≡ Some blocks) × (f set ≡ true)
 back-filter f set [] blocks has = cc
-back-filter f set (k ∷ ks) blocks has = filter-if (f k.set) (k.set == set) f set k (filter (λ j. f j.set) ks) (image_in set ks) blocks refl refl (back-filter f set ks blocks) has
+back-filter f set (k ∷ ks) blocks has = grind (arith, same_number, back-filter f set ks blocks)
 
 -- ## what was there before a cut
 
-push-if : (t : Bool) (here blocks : List (List ℕ)) (o q : Option (List (List ℕ))) → (q ≡ Some blocks → o ≡ Some blocks) → (if t then Some here else q) ≡ Some blocks
-    → (if t then Some here else o) ≡ Some blocks
-push-if t here blocks o q h e = grind arith
-
 back-push : (set other : ℕ) (ks : List Kept) (had blocks : List (List ℕ)) → other ≢ set → image_in set (ks ++ record { set = other; blocks = had } ∷ []) ≡ Some blocks → image_in set ks ≡ Some blocks
 back-push set other [] had blocks apart e = let no = number_is_other other set apart in let is = sym (ap (λ t. if t then Some had else None) no) ∙ e in cc
-back-push set other (k ∷ ks) had blocks apart e = push-if (k.set == set) k.blocks blocks (image_in set ks) (image_in set (ks ++ record { set = other; blocks = had } ∷ []))
-    (back-push set other ks had blocks apart) e
+back-push set other (k ∷ ks) had blocks apart e = grind (arith, back-push set other ks had blocks apart)
 
 back-each : (vs : List ℕ) (v set other : ℕ) (ps : List Plain) (blocks : List (List ℕ)) → other ≢ set → Has (on_each vs (cut_on other) ps) set v blocks → Has ps set v blocks
 back-each [] v set other ps blocks apart has = has
@@ -109,12 +163,6 @@ back-cut s other set v vs blocks none has false is = inl (back-each vs v set oth
 goes_not : (t : Bool) (u v : ℕ) → (u ≡ v → not t ≡ true) → (t && (u == v)) ≡ false
 goes_not t u v h = grind (arith, same_number)
 
-turned : (s set : ℕ) → not (s == set) ≡ not (set == s)
-turned s set = grind (arith, nat_tests)
-
-kept_on : (up_to set : ℕ) → nat_lt up_to set ≡ true → nat_le set up_to ≡ false
-kept_on up_to set e = grind (arith, nat_tests)
-
 -- the images of a volume that is changed in this way are of those that it had
 still : (s : PlainStore) (x : Step) (u set v : ℕ) (f : Plain → Plain) (test : ℕ → Bool) (gone : Bool) (blocks : List (List ℕ)) → ((p : Plain) → (f p).images ≡ filter (λ k. test k.set) p.images)
     → test set ≡ not gone
@@ -127,11 +175,11 @@ pub back-step : (s : PlainStore) (x : Step) (set v : ℕ) (blocks : List (List �
 back-step s (Cut other vs) set v blocks allowed has = back-cut s other set v vs blocks allowed.1 has (other == set) refl
 back-step s (Gone up_to) set v blocks allowed has =
     let r = back-all v set (gone_on up_to) (nat_lt up_to set) s.volumes blocks (λ p e. back-filter (λ n. nat_lt up_to n) set p.images blocks e) has in
-    inl (r.0, kept_on up_to set r.1)
+    inl (r.0, (grind (arith, nat_tests, r.1)))
 back-step s (Updated u wanted) set v blocks allowed has = inl ((back-on u v set (with_blocks wanted) true s.volumes blocks (λ p e. (e, refl)) has).0, refl)
 back-step s (UpdatedInPart u wanted now) set v blocks allowed has = inl ((back-on u v set (with_blocks now) true s.volumes blocks (λ p e. (e, refl)) has).0, refl)
 back-step s (Dropped other u) set v blocks allowed has =
-    inl (still s (Dropped other u) u set v (dropped_on other) (λ n. not (n == other)) (other == set) blocks (λ p. refl) (turned set other) refl has)
+    inl (still s (Dropped other u) u set v (dropped_on other) (λ n. not (n == other)) (other == set) blocks (λ p. refl) (grind (arith, nat_tests)) refl has)
 back-step s (Reverted other u) set v blocks allowed has = inl (still s (Reverted other u) u set v (reverted_on other) (λ n. not (nat_lt other n)) (nat_lt other set) blocks (λ p. refl) refl refl has)
 back-step s (RevertedInPart other u now) set v blocks allowed has =
     inl (still s (RevertedInPart other u now) u set v (λ p. with_blocks now (older_on other p)) (λ n. not (nat_lt other n)) (nat_lt other set) blocks (λ p. refl) refl refl has)
@@ -182,10 +230,7 @@ cut_once s earlier between later set vs ws all =
 -- an image that was cut before these steps, and is there after them, is that one
 same_cut : (s : PlainStore) (xs : List Step) (set v : ℕ) (blocks found : List (List ℕ)) → set ≤ s.last → AreAllowed s xs → image_of s set v ≡ Some blocks
     → image_of (after_all s xs) set v ≡ Some found → found ≡ blocks
-same_cut s xs set v blocks found given all has at = by_origin (images_come s xs set v found all at) where
-  by_origin : ((image_of s set v ≡ Some found) × (stays set v xs ≡ true)) ⊎ IsCutIn s xs set v found → found ≡ blocks
-  by_origin (inl h) = let both : Some found ≡ Some blocks = sym h.0 ∙ has in cc
-  by_origin (inr c) = absurd (not_again s c.earlier c.later set c.vs given (subst (AreAllowed s) c.steps_are all))
+same_cut s xs set v blocks found given all has at = (grind (arith, not_again, images_come s xs set v found all at))
 
 pub files_back : FilesComeBack
 files_back s earlier between later file shown n set v vs fits had all l among =

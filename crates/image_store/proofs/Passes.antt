@@ -1,24 +1,22 @@
 -- The loops of an update.
 use Rattle.std.proofs.Common.{◌≡◌, ◌≢◌, ℕ, zero, suc, ◌+◌, ◌<◌, ◌≤◌, List, length, refl, ap, sym, subst, ◌∙◌, arith, Bool, true, false, Option, Some, inl, inr}
 use Rattle.std.specs.Prelude.{◌⊎◌, IfSome, not, slice_get, slice_set}
-use Rattle.volume_device.specs.Blocks.{AreBlocks}
+use Rattle.volume_device.specs.InMemory.{AreBlocks}
 use Rattle.volume_device.specs.declared.device.Device.{Ghosts}
 use Rattle.std.proofs.lemmas.Option.{slice_get_within}
 use Rattle.write_history.specs.declared.evicted.Evicted.{Evicted}
-use Rattle.cow_volume.specs.GroupValue.{GroupValue}
+use Rattle.cow_volume.specs.StandsFor.{GroupValue}
 use Rattle.cow_volume.specs.Room.{HasRoom, images_going}
 use Rattle.cow_volume.specs.Steps.{IsPut}
 use Rattle.cow_volume.specs.Calls.{blocks_at, blocks_in, IsNow}
 use Rattle.cow_volume.proofs.Group.{slice_get-set_same, slice_get-set_other, length-slice_set, slice_get_inside}
-use Rattle.image_store.specs.Capturing.{Gives}
+use Rattle.image_store.specs.Updating.{Gives, IsGone, HasSome, HasSomeGone, HasMixed, AreMarked, AreReady}
 use Rattle.image_store.specs.Plain.{Plain, volume_in, with_blocks, on_volume}
-use Rattle.image_store.specs.Passes.{IsGone, HasSome, HasSomeGone, HasMixed}
 use Rattle.image_store.specs.Steps.{AreMixed}
 use Rattle.image_store.specs.StoreValue.{HasPlains, KeepsPlains}
-use Rattle.image_store.specs.Updating.{AreMarked, AreReady}
 use Rattle.image_store.proofs.Plains.{same_lists, on_volume-same, on_volume-twice, as_many_plains, as_many_blocks, sets_of_volumes, kept_then, block_now}
 use Rattle.image_store.proofs.Calls.{gone_plains, room_plains, put_on, put_plains}
-use Rattle.image_store.proofs.Sets.{at_or_below}
+use Rattle.image_store.proofs.Opens.{at_or_below}
 
 -- ## the first pass
 
@@ -73,7 +71,6 @@ pub marked_all : {D I : Type 0} (told : D → Option (List (List ℕ))) (source 
     → (wanted : List (List ℕ)) (ps : List Plain) → source.told input ≡ Some wanted → HasPlains told old ps → AreMarked differs wanted (volume_in ps v).blocks
 marked_all told source old now input input_now v before differs k l marks all whole so wanted ps is plains =
     let many = as_many_blocks told old ps v plains l in
-    let len = so.len in
     record {
       ready = record {
         marks = so.len ∙ marks ∙ sym many;

@@ -4,8 +4,7 @@ use Rattle.std.specs.Prelude.{slice_get, IfSome}
 use Rattle.std.proofs.lemmas.Option.{same_Some, slice_get_within}
 use Rattle.write_history.specs.History.{Image, History, content, contents, point_in, sets_of, AreInTime}
 use Rattle.write_history.specs.Slots.{gone_up_to}
-use Rattle.cow_volume.specs.GroupValue.{GroupValue, placed}
-use Rattle.cow_volume.specs.StandsFor.{StandsFor, told_in}
+use Rattle.cow_volume.specs.StandsFor.{GroupValue, placed, StandsFor, told_in}
 use Rattle.cow_volume.specs.Ending.{AllTell, IsSynced}
 use Rattle.cow_volume.specs.Calls.{history_at, changed_at, blocks_at, blocks_in, sets_at, sets_in, is_among, IsKept, IsQuiet, IsNow, IsShown}
 use Rattle.cow_volume.proofs.Group.{slice_get_inside, slice_get_map, place_at, quiet_stands}
@@ -121,7 +120,6 @@ sets_of_volume told g ps v has l =
 pub sets_of_volumes : {D : Type 0} → (told : D → Option (List (List ℕ))) (g : GroupValue D) (ps : List Plain) → HasPlains told g ps → g.images ≡ map sets_on ps
 sets_of_volumes told g ps has = same_lists g.images (map sets_on ps) (has.stands.images ∙ sym (length-sets ps ∙ as_many_plains told g ps has)) (λ v sets qs at is.
     let within = slice_get_within g.images v sets at in
-    let long = has.stands.images in
     let l : v < length g.area.volumes = omega arith in
     let here = sets_of_volume told g ps v has l in
     let many = as_many_plains told g ps has in
@@ -149,7 +147,6 @@ pub kept_tells : {D : Type 0} → (ghosts : Ghosts D) (old new : GroupValue D) �
     → AllTell ghosts.told new.devices
 kept_tells ghosts old new kept tell = λ v d at.
     let within = slice_get_within new.devices v d at in
-    let long = kept.devices in
     let before = slice_get_inside old.devices v (omega arith) in
     (kept.each v before.0 d before.1 at).tells ∙ tell v before.0 before.1
 
@@ -209,7 +206,6 @@ block_now told g ps v b bytes has l m is =
     let at = at_volume told g ps v has l in
     let same = is has.hs at.device has.stands at.device_is (has.devices v at.device at.device_is) has.area in
     let here : bytes ≡ content at.history.writes (length at.history.writes) b = same ∙ ap (λ (h : History). content h.writes (length h.writes) b) at.history_at_is in
-    let n = at.blocks_at_is in
     ap (λ (p : Plain). slice_get p.blocks b) at.plain ∙ contents_at at.blocks at.history.writes (length at.history.writes) b (omega arith) ∙ ap Some (sym here)
 
 -- the point of an image that stands

@@ -7,21 +7,18 @@ use Rattle.std.specs.List.Sorted.{IsPermutation}
 use Rattle.std.proofs.lemmas.List.{length-map}
 use Rattle.std.proofs.lemmas.Option.{same_Some, slice_get_within}
 use Rattle.block_data.specs.declared.block_buf.TheConstants.{BLOCK}
-use Rattle.vss_names.specs.TextValue.{TextValue}
-use Rattle.volume_device.specs.Blocks.{AreBlocks}
+use Rattle.vss_names.specs.Names.{TextValue}
+use Rattle.volume_device.specs.InMemory.{AreBlocks}
 use Rattle.volume_device.specs.declared.device.Device.{Ghosts}
 use Rattle.write_history.specs.Slots.{Copy, copies}
 use Rattle.diff_area.specs.Copies.{copies_from, AreHeld, AreStored}
-use Rattle.diff_area.specs.Format.{part, header_of, records_of, slots_in, table_of, IsArea}
+use Rattle.diff_area.specs.Format.{part, header_of, records_of, slots_in, table_of, IsArea, pages_for, place_of_slot, table_for, free, is_free}
 use Rattle.diff_area.specs.Loading.{IsReadFrom}
-use Rattle.diff_area.specs.Places.{pages_for, place_of_slot, table_for}
-use Rattle.diff_area.specs.Records.{free, is_free}
 use Rattle.diff_area.specs.declared.table_record.Record.{Record}
-use Rattle.diff_area.proofs.Blocks.{AreOf, are_of, length-concat, part-block, part-blocks}
-use Rattle.diff_area.proofs.FromDevice.{held_is}
+use Rattle.diff_area.proofs.ByPlace.{AreOf, are_of, length-concat, part-block, part-blocks}
+use Rattle.diff_area.proofs.OnDevice.{held_is}
 use Rattle.diff_area.proofs.GoodRecords.{length-rows_in}
-use Rattle.cow_volume.specs.GroupValue.{GroupValue, placed}
-use Rattle.cow_volume.specs.StandsFor.{told_in, IsVolume}
+use Rattle.cow_volume.specs.StandsFor.{GroupValue, placed, told_in, IsVolume}
 use Rattle.cow_volume.specs.Calls.{blocks_at, sets_at}
 use Rattle.cow_volume.specs.Room.{lacks_copy}
 use Rattle.cow_volume.specs.Steps.{IsPut}
@@ -35,7 +32,7 @@ use Rattle.image_store.specs.StoreValue.{HasPlains}
 use Rattle.image_store.proofs.Calls.{put_on, put_plains}
 use Rattle.image_store.proofs.Keeping.{kept_of}
 use Rattle.image_store.proofs.Plains.{as_many_blocks, as_many_plains, device_tells, on_volume-same, on_volume-twice, same_lists}
-use Rattle.image_store.proofs.Sets.{at_or_below}
+use Rattle.image_store.proofs.Opens.{at_or_below}
 use Rattle.image_store.proofs.Stores.{store_of}
 
 -- ## the area
@@ -258,12 +255,6 @@ replaced h (suc k) (f ∷ fs) (x ∷ xs) = h f x ∷ replaced h k fs xs
 abbrev as_told : List (List ℕ) → Held → Held
 as_told blocks d = Some blocks
 
-length-replaced : {F X : Type 0} (h : F → X → X) (k : ℕ) (fs : List F) (xs : List X) → length (replaced h k fs xs) ≡ length xs
-length-replaced h zero fs xs = refl
-length-replaced h (suc k) [] xs = refl
-length-replaced h (suc k) (f ∷ fs) [] = refl
-length-replaced h (suc k) (f ∷ fs) (x ∷ xs) = ap suc (length-replaced h k fs xs)
-
 -- one more
 next_device : (k : ℕ) (fs : List (List (List ℕ))) (ds : List Held) (f : List (List ℕ)) → slice_get fs k ≡ Some f → slice_set (replaced as_told k fs ds) k (Some f) ≡ replaced as_told (suc k) fs ds
 next_device k [] ds f at = cc
@@ -320,11 +311,8 @@ module _ {D : Type 0} (told : D → Held) (g : GroupValue D) (ps : List Plain) (
   volumes_found (suc k) l =
       let f = slice_get_inside found k (omega arith) in
       let before = volumes_found k (omega arith) in
-      let devices = has.stands.devices in
       let at = same k f.0 (omega arith) f.1 in
       let still = ap (λ (p : Plain). p.blocks) (plain_still k found ps) in
-      let many = length-replaced as_told k found (map told g.devices) in
-      let long = length-map g.devices told in
       let one = volume_found (with_devices told g (replaced as_told k found (map told g.devices))) (replaced with_blocks k found ps) k f.0 (omega arith) (omega arith) before
       (at.number ∙ ap length (sym still)) (λ b lacks. at.same b lacks ∙ ap (λ (bs : List (List ℕ)). slice_get bs b) (sym still)) in
       subst (λ (ds : List Held). HasPlains itself (with_devices told g ds) (replaced with_blocks (suc k) found ps)) (next_device k found (map told g.devices) f.0 f.1)
@@ -366,8 +354,6 @@ opens_found {D = D} told g now names last p found area committed under are =
     let slots = are.slots between.0 between.1 in
     let all = at_both (IsCopyPlace g.area.records) blocks.0 between.0 area between.2 slots.known in
     let has = all_found told g ps found plains (are.number ∙ under.devices) (λ v these low at.
-    let many = plains.stands.devices in
-    let long = under.devices in
     let d = slice_get_inside g.devices v (omega arith) in
     let e = slice_get_inside now.devices v (omega arith) in
     let on = (under.each v d.0 e.0 d.1 e.1).blocks (volume_in ps v).blocks (device_tells told g ps v d.0 plains low d.1) in

@@ -9,11 +9,11 @@ use Rattle.std.proofs.lemmas.Bool.Decides.{nat_tests}
 use Rattle.byteorder.specs.Endian.{little_number}
 use Rattle.block_data.specs.declared.block_buf.TheConstants.{BLOCK}
 use Rattle.io_edge.specs.Streams.{Took, TookPart}
-use Rattle.cow_volume.specs.GroupValue.{GroupValue}
+use Rattle.cow_volume.specs.StandsFor.{GroupValue}
 use Rattle.cow_volume.specs.Calls.{blocks_at, sets_at, is_among, IsNow, IsShown as IsImage}
 use Rattle.image_store.specs.FileBytes.{file_in, length_in, has_length, number_in}
 use Rattle.image_store.specs.Plain.{Plain, volume_in}
-use Rattle.image_store.specs.Showing.{HasBlock, HasLength, HasNoLength, HasReadCause, IfBad, IsShow, IsShownInPart, IsUnseen, shown_in, IsSeen}
+use Rattle.image_store.specs.Showing.{HasBlock, HasLength, HasNoLength, HasReadCause, IfBad, IsShow, IsShownInPart, shown_in, IsSeen}
 use Rattle.image_store.specs.StoreValue.{HasPlains, KeepsPlains}
 use Rattle.image_store.specs.declared.which.Which.{Which}
 use Rattle.image_store.specs.declared.which.Which.TheVariants.{Now, Of}
@@ -54,7 +54,6 @@ no_room a b l = grind (arith, nat_tests)
 pub no_length_read : (shown : Option (List (List ℕ))) (n said : ℕ) (bytes : List ℕ) → HasBlock shown n (n - 1) bytes → said ≡ little_number 8 (drop (BLOCK - 8) bytes) → BLOCK * n < said + 8
     → HasNoLength shown said
 no_length_read shown n said bytes has is room = λ blocks are.
-    let same : Some has.blocks ≡ Some blocks = sym has.are ∙ are in
     let equal : has.blocks ≡ blocks = cc in
     let said_equal : said ≡ length_in has.blocks = is ∙ sym (said_is has.blocks n bytes has.many has.at) in
     subst (λ (bs : List (List ℕ)). (has_length bs ≡ false) × (said ≡ length_in bs)) equal
@@ -74,9 +73,6 @@ no_length_at shown n blocks said piece bytes same has are is =
     (subst (λ k. BLOCK * k < said + 8) same is.1)
 
 -- ## what the sink took
-
-pub took_none : (before : Option (List ℕ)) → Took before [] before
-took_none before = grind (arith, append-nil)
 
 pub took_then : (a b c : Option (List ℕ)) (xs ys : List ℕ) → Took a xs b → Took b ys c → Took a (xs ++ ys) c
 took_then None b c xs ys first second = second ∙ ap (option_map (λ had. had ++ ys)) first
@@ -104,7 +100,7 @@ file_is blocks m e = ap (λ j. take j (concat blocks)) e
 
 -- before the first
 pub shown_none : (shown : Option (List (List ℕ))) (n left : ℕ) (before : Option (List ℕ)) → HasLength shown n left → HasTaken shown n before before left 0
-shown_none shown n left before has = grind (arith, took_none, file_is)
+shown_none shown n left before has = grind (arith, append-nil, file_is)
 
 drop_at : (blocks : List (List ℕ)) (k : ℕ) (bytes : List ℕ) → slice_get blocks k ≡ Some bytes → drop k blocks ≡ bytes ∷ drop (k + 1) blocks
 drop_at [] k bytes at = cc
@@ -129,7 +125,6 @@ pub shown_more : (shown : Option (List (List ℕ))) (n left more rest k : ℕ) (
     → Took now (take more bytes) next
     → rest + more ≡ left → (more ≡ length bytes) ⊎ ((rest ≡ 0) × (left ≤ length bytes)) → HasTaken shown n before next rest (k + 1)
 shown_more shown n left more rest k before now next bytes so has took sum part =
-    let both : Some so.blocks ≡ Some has.blocks = sym so.are ∙ has.are in
     let same : has.blocks ≡ so.blocks = cc in
     let at : slice_get so.blocks k ≡ Some bytes = ap (λ (bs : List (List ℕ)). slice_get bs k) (sym same) ∙ has.at in
     record {
@@ -162,7 +157,6 @@ shown_part shown n left k before now so = grind (arith, part_of_all)
 pub shown_failed : (shown : Option (List (List ℕ))) (n left more rest k : ℕ) (before now next : Option (List ℕ)) (bytes : List ℕ) → HasTaken shown n before now left k → HasBlock shown n k bytes
     → TookPart now (take more bytes) next → rest + more ≡ left → (more ≡ length bytes) ⊎ ((rest ≡ 0) × (left ≤ length bytes)) → IsShownInPart shown before next
 shown_failed shown n left more rest k before now next bytes so has (m, short, took) sum part =
-    let both : Some so.blocks ≡ Some has.blocks = sym so.are ∙ has.are in
     let same : has.blocks ≡ so.blocks = cc in
     let at : slice_get so.blocks k ≡ Some bytes = ap (λ (bs : List (List ℕ)). slice_get bs k) (sym same) ∙ has.at in
     let front = take more bytes in
@@ -178,19 +172,15 @@ shown_failed shown n left more rest k before now next bytes so has (m, short, to
 
 -- nothing is
 nothing_shown : (shown : Option (List (List ℕ))) (before : Option (List ℕ)) → IsShownInPart shown before before
-nothing_shown shown before = record { bytes = []; took = took_none before; part = λ blocks are. (file_in blocks, refl) }
+nothing_shown shown before = record { bytes = []; took = grind (arith, append-nil); part = λ blocks are. (file_in blocks, refl) }
 
 pub bad_shown : (shown : Option (List (List ℕ))) (before : Option (List ℕ)) (fault : ShowFault) → IfBad shown fault → IsShow shown before before (Err fault)
 bad_shown shown before fault bad = grind (arith, nothing_shown)
 
--- an image stands, or it does not
-not_both : {D : Type 0} (g : GroupValue D) (v : ℕ) (which : Which) → IsSeen g v which → IsUnseen g v which → ⊥
-not_both g v which seen none = grind arith
-
 pub read_failed : {D : Type 0} (g : GroupValue D) (v : ℕ) (which : Which) (shown : Option (List (List ℕ))) (before now : Option (List ℕ)) (fault : ShowFault)
     → IsSeen g v which → HasReadCause g v which fault
     → IsShownInPart shown before now → IsShow shown before now (Err fault)
-read_failed g v which shown before now fault seen cause part = grind (arith, not_both)
+read_failed g v which shown before now fault seen cause part = grind (arith)
 
 -- it stands where it stood
 pub seen_in : {D : Type 0} (old now : GroupValue D) (v : ℕ) (which : Which) → now.images ≡ old.images → IsSeen now v which → IsSeen old v which

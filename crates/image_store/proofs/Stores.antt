@@ -1,35 +1,80 @@
--- A store and the whole copies that it stands for: its calls as steps.
-use Rattle.std.proofs.Common.{◌≡◌, ℕ, ◌<◌, List, [], ◌∷◌, length, map, refl, ap, sym, subst, ◌∙◌, arith, Bool, true, false, Option, Some, None, is_some}
-use Rattle.std.specs.Prelude.{◌||◌, ◌&&◌, ◌==◌, not, nat_lt, if◌then◌else◌, replicate, Result, Ok, Err, OnOk}
-use Rattle.vss_names.specs.TextValue.{TextValue}
-use Rattle.vss_catalog.specs.Group.{are_names_for}
-use Rattle.vss_catalog.specs.Names.{are_names}
-use Rattle.write_history.specs.declared.evicted.Evicted.{Evicted}
-use Rattle.block_data.specs.Runs.{zeros}
+-- A store and the whole copies that it stands for: its calls as steps, with sets that stay among those that were given.
+use Rattle.std.proofs.Common.{◌≡◌, ℕ, zero, suc, ◌<◌, ◌≤◌, List, [], ◌∷◌, ◌++◌, map, refl, ap, ◌∙◌, arith, Bool, Some, None, length, sym, subst, true, false}
+use Rattle.std.proofs.Common.{Option, is_some}
+use Rattle.std.specs.Prelude.{filter, if◌then◌else◌, ◌&&◌, ◌==◌, not, nat_lt, replicate, Result, Ok, Err, OnOk}
+use Rattle.vss_names.specs.Names.{TextValue}
+use Rattle.block_data.specs.BlockBytes.{zeros}
 use Rattle.volume_device.specs.declared.device.Device.{Ghosts}
 use Rattle.write_history.specs.History.{fresh}
-use Rattle.cow_volume.specs.GroupValue.{GroupValue}
-use Rattle.cow_volume.specs.StandsFor.{StandsFor}
+use Rattle.write_history.specs.declared.evicted.Evicted.{Evicted}
+use Rattle.cow_volume.specs.Calls.{IsDropped, is_among, IsRevert as IsGroupRevert}
 use Rattle.cow_volume.specs.Ending.{AllTell, IsSync, IsSynced}
-use Rattle.cow_volume.specs.Calls.{IsDropped, is_among}
-use Rattle.cow_volume.specs.Calls.{IsRevert as IsGroupRevert}
+use Rattle.cow_volume.specs.StandsFor.{GroupValue, StandsFor}
 use Rattle.cow_volume.specs.declared.cause.Cause.{Cause}
 use Rattle.cow_volume.specs.declared.image_fault.ImageFault.{ImageFault}
 use Rattle.cow_volume.specs.declared.revert_fault.RevertFault.{RevertFault}
 use Rattle.cow_volume.specs.declared.revert_fault.RevertFault.TheVariants.{NoSuchImage, Fault}
+use Rattle.cow_volume.proofs.Group.{number_is_other}
+use Rattle.vss_catalog.specs.Entries.{are_names_for, are_names}
 use Rattle.image_store.specs.Head.{head_of}
-use Rattle.image_store.specs.Passes.{IsCopying, IsWriting}
-use Rattle.image_store.specs.Plain.{Kept, Plain, PlainStore, plain_at, on_each, cut_on, gone_on, with_blocks, dropped_on, older_on, reverted_on, image_in, fresh_store, plains_of, AllGiven}
-use Rattle.image_store.specs.Reverting.{IsRevert}
+use Rattle.image_store.specs.Updating.{IsCopying, IsWriting, AreReady, IsAhead, IsOverwriting}
+use Rattle.image_store.specs.Plain.{Kept, Plain, AreGiven, AllGiven, volume_in, on_volume, on_each, cut_on, image_in, PlainStore, plain_at, gone_on}
+use Rattle.image_store.specs.Plain.{with_blocks, dropped_on, older_on, reverted_on, fresh_store, plains_of}
+use Rattle.image_store.specs.Cutting.{IsRevert}
 use Rattle.image_store.specs.Steps.Step.{Cut, Dropped}
 use Rattle.image_store.specs.StoreValue.{StoreValue, HasPlains, KeepsPlains, StandsAs, IsStep, StandsStill}
-use Rattle.image_store.specs.Updating.{AreReady, IsAhead, IsOverwriting}
 use Rattle.image_store.specs.declared.pass.Pass.{Pass}
 use Rattle.image_store.specs.declared.pass.Pass.TheVariants.{Done, Evicted as Stopped}
 use Rattle.image_store.proofs.Calls.{dropped_plains, reverted_plains, in_part_plains}
 use Rattle.image_store.proofs.Copies.{plain-fresh}
-use Rattle.image_store.proofs.Given.{given-filter, given-on, given-all, given-cut, ungiven, given-at}
 use Rattle.image_store.proofs.Plains.{image_there, sets_of_volume}
+
+-- ## The sets of the images of a store stay among those that were given.
+
+pub given-filter : (test : Kept → Bool) (last : ℕ) (ks : List Kept) → AreGiven last ks → AreGiven last (filter test ks)
+given-filter test last [] given = tt
+given-filter test last (k ∷ ks) given = grind (arith, given-filter test last ks given.1)
+
+given-more : (last set : ℕ) (ks : List Kept) → last ≤ set → AreGiven last ks → AreGiven set ks
+given-more last set [] l given = tt
+given-more last set (k ∷ ks) l given = let here = given.0 in (omega arith, given-more last set ks l given.1)
+
+given-push : (set : ℕ) (ks : List Kept) (blocks : List (List ℕ)) → AreGiven set ks → AreGiven set (ks ++ record { set = set; blocks = blocks } ∷ [])
+given-push set [] blocks given = (omega arith, tt)
+given-push set (k ∷ ks) blocks given = (given.0, given-push set ks blocks given.1)
+
+pub given-on : (last v : ℕ) (f : Plain → Plain) (ps : List Plain) → ((p : Plain) → AreGiven last p.images → AreGiven last (f p).images) → AllGiven last ps → AllGiven last (on_volume v f ps)
+given-on last v f [] h given = tt
+given-on last zero f (p ∷ ps) h given = (h p given.0, given.1)
+given-on last (suc v) f (p ∷ ps) h given = (given.0, given-on last v f ps h given.1)
+
+pub given-all : (last : ℕ) (f : Plain → Plain) (ps : List Plain) → ((p : Plain) → AreGiven last p.images → AreGiven last (f p).images) → AllGiven last ps → AllGiven last (map f ps)
+given-all last f [] h given = tt
+given-all last f (p ∷ ps) h given = (h p given.0, given-all last f ps h given.1)
+
+all-more : (last set : ℕ) (ps : List Plain) → last ≤ set → AllGiven last ps → AllGiven set ps
+all-more last set [] l given = tt
+all-more last set (p ∷ ps) l given = (given-more last set p.images l given.0, all-more last set ps l given.1)
+
+each-cut : (set : ℕ) (vs : List ℕ) (ps : List Plain) → AllGiven set ps → AllGiven set (on_each vs (cut_on set) ps)
+each-cut set [] ps given = given
+each-cut set (v ∷ vs) ps given = each-cut set vs (on_volume v (cut_on set) ps) (given-on set v (cut_on set) ps (λ p g. given-push set p.images p.blocks g) given)
+
+pub given-cut : (last set : ℕ) (vs : List ℕ) (ps : List Plain) → last ≤ set → AllGiven last ps → AllGiven set (on_each vs (cut_on set) ps)
+given-cut last set vs ps l given = each-cut set vs ps (all-more last set ps l given)
+
+-- no image is of a set that was not given
+pub ungiven : (last set : ℕ) (ks : List Kept) → last < set → AreGiven last ks → image_in set ks ≡ None
+ungiven last set [] l given = refl
+ungiven last set (k ∷ ks) l given =
+    ap (λ (t : Bool). if t then Some k.blocks else image_in set ks) (number_is_other k.set set (λ e. absurd (omega arith))) ∙ ungiven last set ks l given.1
+
+pub given-at : (last v : ℕ) (ps : List Plain) → AllGiven last ps → AreGiven last (volume_in ps v).images
+given-at last v [] given = tt
+given-at last zero (p ∷ ps) given = given.0
+given-at last (suc v) (p ∷ ps) given = given-at last v ps given.1
+
+-- ## A store and the whole copies that it stands for: its calls as steps.
 
 -- a store of these parts
 abbrev pub store_of : {D : Type 0} → GroupValue D → List TextValue → ℕ → StoreValue D
@@ -72,12 +117,9 @@ dropped_volumes ghosts old new set v r is = grind arith
 
 -- ## reverts
 
-unseen-if : (t : Bool) (rest : Bool) (blocks : List (List ℕ)) (o : Option (List (List ℕ))) → (t || rest) ≡ false → (rest ≡ false → o ≡ None) → (if t then Some blocks else o) ≡ None
-unseen-if t rest blocks o e h = grind arith
-
 unseen : (set : ℕ) (ks : List Kept) → is_among set (map (λ (k : Kept). k.set) ks) ≡ false → image_in set ks ≡ None
 unseen set [] e = refl
-unseen set (k ∷ ks) e = unseen-if (k.set == set) (is_among set (map (λ (j : Kept). j.set) ks)) k.blocks (image_in set ks) e (unseen set ks)
+unseen set (k ∷ ks) e = grind (arith, unseen set ks)
 
 pub revert_is : {D : Type 0} (ghosts : Ghosts D) (old new : StoreValue D) (set v : ℕ) (r : Result Unit RevertFault) → new.last ≡ old.last
     → v < length old.group.area.volumes → IsGroupRevert ghosts old.group new.group v set r → (p : PlainStore) → StandsAs ghosts.told old p → IsRevert ghosts.told new p set v r

@@ -5,21 +5,18 @@ use Rattle.std.proofs.lemmas.Bool.{cases_eq, cases_lt}
 use Rattle.std.proofs.lemmas.Option.{same_Some, slice_get_within, slice_get_past}
 use Rattle.std.proofs.lemmas.List.{length-append, length-drop, length-map, length-take-le}
 use Rattle.diff_area.specs.AreaValue.{with_first}
-use Rattle.diff_area.specs.Places.{table_for}
-use Rattle.diff_area.specs.Records.{AreRecords}
+use Rattle.diff_area.specs.Format.{table_for, AreRecords, blocks_for}
 use Rattle.diff_area.specs.declared.table_record.Record.{Record}
-use Rattle.diff_area.proofs.Gets.{get-with_first-past}
-use Rattle.diff_area.proofs.TableBlocks.{length-table}
+use Rattle.diff_area.proofs.ByPlace.{get-with_first-past, length-table}
 use Rattle.write_history.specs.declared.evicted.Evicted.{Evicted}
-use Rattle.volume_device.specs.Blocks.{AreBlocks}
-use Rattle.diff_area.specs.Places.{blocks_for}
-use Rattle.diff_map.specs.MapValue.{AreImages}
+use Rattle.volume_device.specs.InMemory.{AreBlocks}
+use Rattle.diff_map.specs.Copies.{AreImages}
 use Rattle.cow_volume.specs.Calls.{sets_in}
 use Rattle.cow_volume.specs.Changes.{gone_row}
 use Rattle.cow_volume.specs.Ending.{IsSync, IsTable}
 use Rattle.diff_area.specs.AreaValue.{AreaValue}
 use Rattle.diff_area.specs.Loading.{IsLoaded}
-use Rattle.vss_names.specs.TextValue.{TextValue}
+use Rattle.vss_names.specs.Names.{TextValue}
 use Rattle.volume_device.specs.declared.device.Device.{Ghosts}
 use Rattle.cow_volume.specs.declared.cause.Cause.{Cause}
 use Rattle.image_store.specs.Plain.{PlainStore, plain_at}
@@ -29,7 +26,7 @@ use Rattle.image_store.specs.declared.pass.Pass.{Pass}
 use Rattle.image_store.specs.declared.pass.Pass.TheVariants.{Done, Evicted as Stopped}
 use Rattle.image_store.proofs.Copied.{copied_kept}
 use Rattle.image_store.proofs.Stores.{still, store_of}
-use Rattle.cow_volume.specs.GroupValue.{GroupValue}
+use Rattle.cow_volume.specs.StandsFor.{GroupValue}
 use Rattle.cow_volume.specs.declared.image_fault.ImageFault.{ImageFault}
 use Rattle.cow_volume.specs.Calls.{blocks_at, sets_at, IsDropped, IsQuiet}
 use Rattle.cow_volume.proofs.Group.{slice_get_inside, slice_get_map}
@@ -130,11 +127,9 @@ shared_still committed v from differs wanted blocks now copied ready mixed = rec
 
   by_place : (k : ℕ) → IsShared committed v k → (k < length blocks) ⊎ (length blocks ≤ k) → slice_get wanted k ≡ slice_get blocks k
   by_place k shared (inl l) =
-      let marks = ready.marks in
       let mark = slice_get_inside differs k (omega arith) in
       sym (wanted_there k shared l (mark_there k mark.0 mark.1) (cases_lt k from))
   by_place k shared (inr past) =
-      let many = ready.as_many in
       slice_get_past wanted k (omega arith) ∙ sym (slice_get_past blocks k past)
 
   by_mixed : (k : ℕ) → IsShared committed v k → (slice_get now k ≡ slice_get blocks k) ⊎ (slice_get now k ≡ slice_get wanted k) → slice_get now k ≡ slice_get blocks k

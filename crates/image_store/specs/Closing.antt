@@ -1,7 +1,7 @@
 -- Why a store was closed and not all of it lasts: which device failed. (This project's own.)
 use Rattle.std.specs.Prelude.{ℕ, ◌≡◌, List, map, Some, slice_get, slice_set}
 use Rattle.vss_names.specs.Faults.{Rose}
-use Rattle.cow_volume.specs.GroupValue.{GroupValue}
+use Rattle.cow_volume.specs.StandsFor.{GroupValue}
 use Rattle.image_store.specs.StoreValue.{StoreValue}
 use Rattle.cow_volume.specs.declared.cause.Cause.{Cause}
 use Rattle.cow_volume.specs.declared.cause.Cause.TheVariants.{NoSuchBlock, Volume, Area}

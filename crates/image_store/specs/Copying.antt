@@ -1,10 +1,9 @@
 -- What the second and the third pass of an update make of the copies: also of devices that tell nothing, as files. (This project's own.)
 use Rattle.std.specs.Prelude.{ℕ, ◌≡◌, ◌≢◌, ◌<◌, ◌≤◌, ◌+◌, ◌-◌, ◌^◌, Bool, true, false, List, length, min, Option, Some, slice_get, Result, Ok, Err}
-use Rattle.diff_area.specs.Places.{place_of_slot}
-use Rattle.diff_area.specs.Records.{free, used_in}
+use Rattle.diff_area.specs.Format.{place_of_slot, free, used_in}
 use Rattle.diff_area.specs.declared.table_record.Record.{Record}
 use Rattle.cow_volume.specs.Calls.{sets_at}
-use Rattle.cow_volume.specs.GroupValue.{GroupValue}
+use Rattle.cow_volume.specs.StandsFor.{GroupValue}
 use Rattle.cow_volume.specs.Room.{gone_group, lacks_copy}
 use Rattle.image_store.specs.declared.pass.Pass.{Pass}
 use Rattle.image_store.specs.declared.pass.Pass.TheVariants.{Done, Evicted as Stopped}

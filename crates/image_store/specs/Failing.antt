@@ -2,7 +2,7 @@
 use Rattle.std.specs.Prelude.{ℕ, ◌≡◌}
 use Rattle.vss_names.specs.Faults.{Rose}
 use Rattle.cow_volume.specs.Calls.{AreaRose, DeviceRose, IsUnfailed, VolumeRose}
-use Rattle.cow_volume.specs.GroupValue.{GroupValue}
+use Rattle.cow_volume.specs.StandsFor.{GroupValue}
 use Rattle.cow_volume.specs.declared.cause.Cause.{Cause}
 use Rattle.cow_volume.specs.declared.cause.Cause.TheVariants.{NoSuchBlock, Volume as of_volume, Area as of_area}
 use Rattle.cow_volume.specs.declared.revert_fault.RevertFault.{RevertFault}

@@ -3,7 +3,7 @@
 use Rattle.std.specs.Prelude.{ℕ, ◌+◌, ◌-◌, ◌*◌, ◌≤◌, Bool, List, ◌++◌, length, take, drop, map, nat_le, Option, Some, None, slice_get}
 use Rattle.std.specs.List.{concat, range_with_len}
 use Rattle.byteorder.specs.Endian.{little_bytes, little_number}
-use Rattle.block_data.specs.Runs.{run_of}
+use Rattle.block_data.specs.BlockBytes.{run_of}
 use Rattle.block_data.specs.declared.block_buf.TheConstants.{BLOCK}
 
 -- the file has room in n blocks, of which a volume has at most 65,536

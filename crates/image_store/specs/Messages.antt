@@ -1,8 +1,8 @@
 -- What is said of a call on a store that failed. (This project's own.)
 use Rattle.std.specs.Prelude.{ℕ, ◌++◌, List, codes}
 use Rattle.std.specs.Fmt.{decimal}
-use Rattle.diff_area.specs.Messages.{message_of as area_message}
-use Rattle.vss_catalog.specs.Messages.{message_of as catalog_message}
+use Rattle.diff_area.specs.Refusals.{message_of as area_message}
+use Rattle.vss_catalog.specs.Reading.{message_of as catalog_message}
 use Rattle.image_store.specs.declared.cut_fault.CutFault.{CutFault}
 use Rattle.image_store.specs.declared.cut_fault.CutFault.TheVariants as cut
 use Rattle.image_store.specs.declared.new_fault.NewFault.{NewFault}

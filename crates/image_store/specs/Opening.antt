@@ -7,18 +7,16 @@ use Rattle.cow_volume.specs.Resuming.{AllHaveImages, IsFirstWithoutImage}
 use Rattle.cow_volume.specs.declared.resume_fault.ResumeFault.{ResumeFault}
 use Rattle.cow_volume.specs.declared.resume_fault.ResumeFault.TheVariants.{NoImage, OutOfMemory as no_memory_of_group}
 use Rattle.diff_area.specs.AreaValue.{AreaValue}
-use Rattle.diff_area.specs.Loading.{AreRefused, IsLoaded}
-use Rattle.diff_area.specs.ReadBlocks.{IsReadAlone}
+use Rattle.diff_area.specs.Loading.{AreRefused, IsLoaded, IsReadAlone}
 use Rattle.diff_area.specs.declared.area_fault.AreaFault.{AreaFault}
 use Rattle.diff_area.specs.declared.area_fault.AreaFault.TheVariants.{OutOfMemory as no_memory_of_area}
 use Rattle.vss_catalog.specs.Entries.{EntryValue, lists_of}
 use Rattle.vss_catalog.specs.Reading.{catalog_in}
 use Rattle.vss_catalog.specs.declared.catalog_fault.CatalogFault.{CatalogFault}
 use Rattle.vss_catalog.specs.declared.catalog_fault.CatalogFault.TheVariants.{OutOfMemory as no_memory_of_catalog}
-use Rattle.image_store.specs.Head.{HeadValue}
-use Rattle.image_store.specs.Keeping.{blocks_of}
+use Rattle.image_store.specs.Head.{HeadValue, blocks_of}
 use Rattle.image_store.specs.StoreValue.{StoreValue}
-use Rattle.vss_names.specs.TextValue.{TextValue}
+use Rattle.vss_names.specs.Names.{TextValue}
 use Rattle.image_store.specs.declared.open_fault.OpenFault.{OpenFault}
 use Rattle.image_store.specs.declared.open_fault.OpenFault.TheVariants.{Length, Letters, Catalog, Devices, DoubleName, Set, Area, Volumes, Blocks, Image, OutOfMemory}
 use Rattle.volume_device.specs.declared.device.Device.{Ghosts}

@@ -1,12 +1,13 @@
 -- What the order of an update says of a store: what it has in memory, and to what the head of a state that may be found opens, whatever has
 -- lasted of the blocks that were written (PowerLoss.antt). (This project's own.)
-use Rattle.std.specs.Prelude.{ℕ, ◌≡◌, ◌≢◌, ◌<◌, ◌⊎◌, Bool, true, List, [], ◌∷◌, length, Option, None, Some, slice_get, Result, Ok, Err, OnOk}
+use Rattle.std.specs.Prelude.{ℕ, ◌≡◌, ◌≢◌, ◌<◌, ◌⊎◌, Bool, true, List, [], ◌∷◌, length, Option, None, Some, slice_get, Result, Ok, Err, OnOk, ◌≤◌, map, take}
+use Rattle.std.specs.Prelude.{count_by}
+use Rattle.diff_map.specs.Copies.{AreImages}
 use Rattle.cow_volume.specs.Calls.{is_among, sets_at}
-use Rattle.cow_volume.specs.GroupValue.{GroupValue}
-use Rattle.diff_map.specs.MapValue.{AreImages}
+use Rattle.cow_volume.specs.StandsFor.{GroupValue}
 use Rattle.image_order.specs.declared.copied.Copied.{Copied}
 use Rattle.image_order.specs.declared.copied.Copied.TheVariants.{All as Whole, UntilEvicted}
-use Rattle.image_store.specs.Capturing.{Gives}
+use Rattle.image_store.specs.Updating.{Gives, AreReady}
 use Rattle.image_store.specs.Copying.{AreCopied, HasCopiesOf}
 use Rattle.image_store.specs.Head.{head_of}
 use Rattle.image_store.specs.Plain.{PlainStore, plain_at, image_of}
@@ -14,7 +15,7 @@ use Rattle.image_store.specs.PowerLoss.{AreFound, IsCommitted, IsUnderWay, Opens
 use Rattle.image_store.specs.Steps.{after}
 use Rattle.image_store.specs.Steps.Step.{Gone}
 use Rattle.image_store.specs.StoreValue.{StoreValue, StandsAs, StandsStill}
-use Rattle.image_store.specs.Updating.{AreReady}
+use Rattle.image_store.specs.declared.job.Job.{Job}
 
 -- ## what is to be done
 
@@ -178,3 +179,30 @@ pub record FoundBut {D : Type 0} (told : D → Option (List (List ℕ))) (now : 
   pub opens : (found : List (List (List ℕ))) (area : List (List ℕ)) → AreFound told store.group now.group found area → OpensAsCommitted told store kept found area
   pub images : (set v : ℕ) → is_among set (sets_at now.group v) ≡ true → image_of kept set v ≡ image_of p set v
   pub others : (set v : ℕ) → (image_of kept set v ≡ image_of p set v) ⊎ (image_of kept set v ≡ None)
+
+-- ## The jobs of an update, as a contract sees them. (This project's own.)
+
+-- what is to be done
+abbrev pub aim_of : {I : Type 0} → (I → Option (List (List ℕ))) → Job I → Aim
+aim_of told job = record { volume = job.volume; told = told job.input; differs = job.differs.items }
+
+abbrev pub aims_of : {I : Type 0} → (I → Option (List (List ℕ))) → List (Job I) → List Aim
+aims_of told jobs = map (aim_of told) jobs
+
+-- how many of the first blocks are marked
+abbrev pub marked_in : ℕ → List Bool → ℕ
+marked_in blocks differs = count_by (λ mark. mark) (take blocks differs)
+
+-- what of it was copied: the marked blocks before the next one
+abbrev pub AreCopiedSoFar : {D I : Type 0} → GroupValue D → List (Job I) → Type 0
+AreCopiedSoFar g jobs = OfEach (λ job. AreCopied g job.volume job.differs.items 0 job.at) jobs
+
+-- and each volume is ready for its device
+pub record AreBegun {D I : Type 0} (told : D → Option (List (List ℕ))) (told_in : I → Option (List (List ℕ))) (s : StoreValue D)
+    (jobs : List (Job I)) : Type 0 where
+  pub so_far : AreCopiedSoFar s.group jobs
+  pub ready : OfAll told s (λ p. OfEach (IsReady p) (aims_of told_in jobs))
+
+-- no block is left to be copied
+abbrev pub AreAtTheirEnd : {I : Type 0} → List (Job I) → Type 0
+AreAtTheirEnd jobs = OfEach (λ job. length job.differs.items ≤ job.at) jobs

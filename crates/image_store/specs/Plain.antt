@@ -1,7 +1,7 @@
 -- Whole copies: what each volume has now, and for each of its images a copy of all that the volume had at the image's cut. This is the
 -- second reading of a store of images: no slot, no block that is shared, nothing that is evicted by itself. (This project's own.)
 use Rattle.std.specs.Prelude.{ℕ, zero, suc, ◌≤◌, List, [], ◌∷◌, ◌++◌, length, map, filter, replicate, nat_lt, not, ◌==◌, if◌then◌else◌, Option, Some, None, slice_get}
-use Rattle.block_data.specs.Runs.{zeros}
+use Rattle.block_data.specs.BlockBytes.{zeros}
 use Rattle.write_history.specs.History.{History, Image, Write, contents}
 
 -- an image: its set, and the blocks that the volume had at its cut

@@ -4,17 +4,15 @@
 use Rattle.std.specs.Prelude.{ℕ, ◌≡◌, ◌≢◌, ◌<◌, true, All, IfSome, List, [], ◌∷◌, length, map, Option, Some, slice_get}
 use Rattle.std.specs.List.{concat}
 use Rattle.block_data.specs.declared.block_buf.TheConstants.{BLOCK}
-use Rattle.volume_device.specs.Blocks.{AreBlocks}
+use Rattle.volume_device.specs.InMemory.{AreBlocks}
 use Rattle.diff_area.specs.Loading.{IsReadFrom}
-use Rattle.diff_area.specs.Places.{place_of_slot, table_for}
-use Rattle.diff_area.specs.Records.{free, AreRecords}
+use Rattle.diff_area.specs.Format.{place_of_slot, table_for, free, AreRecords}
 use Rattle.diff_area.specs.declared.table_record.Record.{Record}
 use Rattle.cow_volume.specs.Calls.{sets_at}
-use Rattle.cow_volume.specs.GroupValue.{GroupValue}
+use Rattle.cow_volume.specs.StandsFor.{GroupValue}
 use Rattle.cow_volume.specs.Room.{lacks_copy}
 use Rattle.image_store.specs.Copying.{AreSameAt}
-use Rattle.image_store.specs.Head.{said_of}
-use Rattle.image_store.specs.Keeping.{IsKeptAs}
+use Rattle.image_store.specs.Head.{said_of, IsKeptAs}
 use Rattle.image_store.specs.Plain.{Plain, PlainStore, image_of, with_blocks}
 use Rattle.image_store.specs.StoreValue.{StoreValue, StandsAs}
 

@@ -1,15 +1,20 @@
--- What is shown of a volume, or of its image of a set: the file that its blocks have, to the file's length. (This project's own.)
-use Rattle.std.specs.Prelude.{ℕ, ◌≡◌, ◌+◌, ◌*◌, ◌≤◌, true, false, List, ◌++◌, length, Option, Some, slice_get, Result, Ok, Err}
+-- What is shown of a volume, or of its image of a set; and which blocks were written between the cuts of two sets. (This project's own.)
+use Rattle.std.specs.List.{list_any}
+use Rattle.std.specs.Prelude.{ℕ, ◌≡◌, ◌+◌, ◌*◌, ◌≤◌, true, false, List, ◌++◌, length, Option, Some, slice_get, Result, Ok, Err, ◌<◌, ◌==◌, ◌&&◌, ◌||◌, Bool}
+use Rattle.std.specs.Prelude.{nat_le, nat_lt}
 use Rattle.block_data.specs.declared.block_buf.TheConstants.{BLOCK}
 use Rattle.io_edge.specs.Streams.{Took}
+use Rattle.diff_area.specs.declared.table_record.Record.{Record}
 use Rattle.cow_volume.specs.Calls.{is_among, sets_at}
-use Rattle.cow_volume.specs.GroupValue.{GroupValue}
+use Rattle.cow_volume.specs.StandsFor.{GroupValue}
 use Rattle.image_store.specs.FileBytes.{file_in, has_length, length_in}
 use Rattle.image_store.specs.Plain.{Plain, volume_in, image_in}
-use Rattle.image_store.specs.declared.which.Which.{Which}
-use Rattle.image_store.specs.declared.which.Which.TheVariants.{Now, Of}
 use Rattle.image_store.specs.declared.show_fault.ShowFault.{ShowFault}
 use Rattle.image_store.specs.declared.show_fault.ShowFault.TheVariants.{NoSuchImage, BadLength, Volume, Area, Sink}
+use Rattle.image_store.specs.declared.which.Which.{Which}
+use Rattle.image_store.specs.declared.which.Which.TheVariants.{Now, Of}
+
+-- ## What is shown of a volume, or of its image of a set: the file that its blocks have, to the file's length. (This project's own.)
 
 -- the blocks that are shown, where there are any
 abbrev pub shown_in : List Plain → ℕ → Which → Option (List (List ℕ))
@@ -89,3 +94,23 @@ IfBad shown (BadLength found) = HasNoLength shown found
 IfBad shown Volume = Unit {0}
 IfBad shown Area = Unit {0}
 IfBad shown Sink = Unit {0}
+
+-- ## Which blocks of a volume were written between the cuts of two sets, by the records of the slots alone. (This project's own: a block has a
+-- copy for an image if it was written after the image's cut and before the next.)
+
+-- a set is one of those from one set on to before the other, in either order; or of those from one set on up to now
+abbrev pub is_between : ℕ → Which → ℕ → Bool
+is_between one Now set = nat_le one set
+is_between one (Of other) set = (nat_le one set && nat_lt set other) || (nat_le other set && nat_lt set one)
+
+-- the record is of a copy of block b of volume v for the image of such a set
+abbrev pub is_written : ℕ → ℕ → Which → ℕ → Record → Bool
+is_written v one other b r = ((r.volume == v) && is_between one other r.set) && (r.block == b)
+
+-- the marked blocks are just those of which there are such copies
+abbrev pub AreWritten : List Record → ℕ → ℕ → Which → List Bool → Type 0
+AreWritten records v one other marks = (b : ℕ) → b < length marks → slice_get marks b ≡ Some (list_any (is_written v one other b) records)
+
+-- each block that is not marked is the same in both
+abbrev pub AreSameBut : List Bool → Option (List (List ℕ)) → Option (List (List ℕ)) → Type 0
+AreSameBut marks one other = (b : ℕ) (xs ys : List (List ℕ)) → slice_get marks b ≡ Some false → one ≡ Some xs → other ≡ Some ys → slice_get xs b ≡ slice_get ys b

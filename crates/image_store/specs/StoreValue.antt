@@ -1,11 +1,11 @@
 -- What a contract sees of a store: the group of its volumes, their names, and the last set that was given; and for which whole copies it
 -- stands, where its devices tell their blocks. (This project's own.)
-use Rattle.std.specs.Prelude.{ℕ, ◌≡◌, true, List, Option, is_some}
-use Rattle.vss_names.specs.TextValue.{TextValue}
+use Rattle.std.specs.Prelude.{ℕ, ◌≡◌, true, List, Option, is_some, ◌≢◌, ◌<◌, ◌==◌, ◌&&◌, ◌⊎◌, false, length, Some, slice_get}
+use Rattle.vss_names.specs.Names.{TextValue}
 use Rattle.write_history.specs.History.{History}
-use Rattle.cow_volume.specs.GroupValue.{GroupValue}
-use Rattle.cow_volume.specs.StandsFor.{StandsFor}
 use Rattle.cow_volume.specs.Ending.{AllTell}
+use Rattle.cow_volume.specs.StandsFor.{GroupValue, StandsFor}
+use Rattle.vss_catalog.specs.Entries.{are_names}
 use Rattle.image_store.specs.Plain.{Plain, PlainStore, AllGiven, plains_of}
 use Rattle.image_store.specs.Steps.{Step, IsAllowed, after}
 
@@ -40,3 +40,24 @@ IsStep told old new step = (p : PlainStore) → StandsAs told old p → IsAllowe
 -- it stands for what it stood for
 abbrev pub StandsStill : {D : Type 0} → (D → Option (List (List ℕ))) → StoreValue D → StoreValue D → Type 0
 StandsStill told old new = (p : PlainStore) → StandsAs told old p → StandsAs told new p
+
+-- ## The names of a store's volumes, and which volume has a name. (This project's own.)
+
+-- none of the first names is this one
+abbrev pub AreOthers : List TextValue → List ℕ → ℕ → Type 0
+AreOthers names name first = (v : ℕ) (n : TextValue) → v < first → slice_get names v ≡ Some n → n.bytes ≢ name
+
+-- name v is the first that is this one
+pub record IsNamed (names : List TextValue) (name : List ℕ) (v : ℕ) : Type 0 where
+  pub text : TextValue
+  pub at : slice_get names v ≡ Some text
+  pub is : text.bytes ≡ name
+  pub first : AreOthers names name v
+
+-- no two are the same
+abbrev pub AreApart : List TextValue → Type 0
+AreApart names = (v : ℕ) (n : TextValue) → slice_get names v ≡ Some n → AreOthers names n.bytes v
+
+-- why they are no names for these volumes: there is not one for each, one is none, or two are the same
+abbrev pub AreNoNames : List ℕ → List TextValue → Type 0
+AreNoNames volumes names = (((length names == length volumes) && are_names names) ≡ false) ⊎ (AreApart names → ⊥)

@@ -2,7 +2,7 @@
 
 ghost use Rattle.std.specs.Prelude.{◌≡◌, ◌<◌, ◌≤◌, ℕ, List, Some, length, IfOk, OnOk};
 ghost use Rattle.cow_volume.specs.Calls.{blocks_at};
-ghost use Rattle.image_store.specs.Capturing.{AreCaptured, HasCaptured, HasOneCaptured};
+ghost use Rattle.image_store.specs.Updating.{AreCaptured, HasCaptured, HasOneCaptured};
 ghost use Rattle.image_store.specs.Plain.{Plain, volume_in};
 ghost use Rattle.image_store.specs.StoreValue.{HasPlains, KeepsPlains};
 

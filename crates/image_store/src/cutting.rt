@@ -2,7 +2,7 @@
 
 ghost use Rattle.std.specs.Prelude.{◌≡◌, ◌≢◌, ◌<◌, ◌≤◌, ◌⊎◌, ℕ, List, true, length, All, IfSome, IsNone};
 ghost use Rattle.std.specs.List.{AllPairs};
-ghost use Rattle.diff_map.specs.MapValue.{AreImages};
+ghost use Rattle.diff_map.specs.Copies.{AreImages};
 ghost use Rattle.cow_volume.specs.Calls.{is_among, sets_at};
 ghost use Rattle.image_store.specs.Cutting.{IsFirstFull, IsGreatestSet};
 ghost use Rattle.image_store.specs.Plain.{Plain, cut_on, on_each};

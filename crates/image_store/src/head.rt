@@ -2,8 +2,7 @@ ghost use Rattle.std.specs.Prelude.{◌≡◌, ◌<◌, ◌≤◌, ◌+◌, ◌+
 ghost use Rattle.std.specs.List.{remove};
 ghost use Rattle.byteorder.specs.Endian.{little_number};
 ghost use Rattle.vss_catalog.specs.Written.{number_bytes};
-ghost use Rattle.vss_catalog.specs.Allowed.{IsCatalog};
-ghost use Rattle.vss_catalog.specs.Entries.{EntryValue};
+ghost use Rattle.vss_catalog.specs.Entries.{IsCatalog, EntryValue};
 ghost use Rattle.vss_names.specs.Names.{is_name};
 ghost use Rattle.image_store.specs.Head.{bytes_of_head, head_bytes};
 ghost use Rattle.image_store.specs.Opening.{IsHeadFault};
@@ -30,7 +29,7 @@ pub struct Head {
 
 impl Model for Head {
     ghost use Rattle.image_store.specs.Head.{HeadValue};
-    ghost use Rattle.vss_catalog.specs.Allowed.{IsCatalog};
+    ghost use Rattle.vss_catalog.specs.Entries.{IsCatalog};
 
     ghost Value = { HeadValue };
 

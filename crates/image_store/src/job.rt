@@ -2,9 +2,8 @@ ghost use Rattle.std.specs.Prelude.{◌≡◌, ◌<◌, ◌≤◌, ◌+◌, ◌*
 ghost use Rattle.std.specs.Prelude.{replicate, vec_capacity, IfOk, OnOk};
 ghost use Rattle.cow_volume.specs.Calls.{blocks_at};
 ghost use Rattle.image_order.specs.declared.copied.Copied.{Copied as CopiedOf};
-ghost use Rattle.image_store.specs.Aims.{aim_of, marked_in};
+ghost use Rattle.image_store.specs.Ordering.{aim_of, marked_in, AllImages, IsCopyPass, IsOverwrite};
 ghost use Rattle.image_store.specs.Copying.{AreCopied};
-ghost use Rattle.image_store.specs.Ordering.{AllImages, IsCopyPass, IsOverwrite};
 ghost use Rattle.image_store.specs.declared.pass.Pass.TheVariants.{Done};
 
 use crate::pass::Pass;
@@ -43,7 +42,7 @@ pub fn make_empty<D: Device>(store: &Store<D>, gone: &mut Vec<Evicted>) -> Resul
 }
 
 /// How many blocks are marked from one on to before another.
-#[tactic(auto, using(crate::proofs::Marks::marked_few, crate::proofs::Marks::marked_more))]
+#[tactic(auto, using(crate::proofs::Copied::marked_few, crate::proofs::Copied::marked_more))]
 fn marked(differs: &[bool], from: u32, to: u32) -> u32
     ensures { from ≤ to → marked_in to differs.now ≡ marked_in from differs.now + result }
 {
@@ -87,7 +86,7 @@ impl<I: Device> Job<I> {
     }
 
     /// Counts the blocks that are marked.
-    #[tactic(auto, using(crate::proofs::Marks::marked_none))]
+    #[tactic(auto, using(crate::proofs::Copied::marked_none))]
     pub fn count(&mut self)
         ensures { self.new ≡ record self.old {
           written = marked_in (I.size self.old.input) self.old.differs.items;

@@ -1,7 +1,6 @@
 ghost use Rattle.std.specs.Prelude.{◌≡◌, ◌≢◌, ◌<◌, ◌≤◌, ℕ, [], Some, false, length, slice_get, IfOk, IsTrue, OnOk};
 ghost use Rattle.image_order.specs.declared.copied.Copied.{Copied as CopiedOf};
-ghost use Rattle.image_store.specs.Aims.{AreAtTheirEnd, AreCopiedSoFar, aims_of};
-ghost use Rattle.image_store.specs.Ordering.{AllLast, AreApart, AreOverwritten, IsCopyPass};
+ghost use Rattle.image_store.specs.Ordering.{AreAtTheirEnd, AreCopiedSoFar, aims_of, AllLast, AreApart, AreOverwritten, IsCopyPass};
 ghost use Rattle.image_store.specs.PowerLoss.{IsStillUnderWay};
 ghost use Rattle.image_store.specs.StoreValue.{StandsStill};
 

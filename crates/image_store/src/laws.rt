@@ -4,8 +4,7 @@
 ghost use Rattle.std.specs.Prelude.{◌≡◌, ◌<◌, ◌≤◌, ◌*◌, ℕ, List, [], ◌∷◌, Some, length, map, true, vec_capacity, IfOk, OnOk};
 ghost use Rattle.cow_volume.specs.Calls.{blocks_at};
 ghost use Rattle.image_store.specs.Course.{AreTaken, CallsFollowOneAnother, FilesComeBack, ImagesAreOfTheirCut, ImagesComeOfCuts, IsShowStep, SetsAreCutOnce, ShownIsOfItsCut};
-ghost use Rattle.image_store.specs.Head.{bytes_of_head, head_of, said_of};
-ghost use Rattle.image_store.specs.Keeping.{IsKeptAs};
+ghost use Rattle.image_store.specs.Head.{bytes_of_head, head_of, said_of, IsKeptAs};
 ghost use Rattle.image_store.specs.Plain.{PlainStore};
 ghost use Rattle.image_store.specs.PowerLoss.{WhatIsUnderWayIsFound};
 ghost use Rattle.image_store.specs.Steps.{after};

@@ -1,7 +1,7 @@
 //! The names of a store's volumes.
 
 ghost use Rattle.std.specs.Prelude.{◌≡◌, false, length, IfSome, IsNone, IsTrue};
-ghost use Rattle.image_store.specs.Naming.{AreApart, AreOthers, IsNamed};
+ghost use Rattle.image_store.specs.StoreValue.{AreApart, AreOthers, IsNamed};
 
 use vss_names::Text;
 

@@ -1,10 +1,9 @@
 //! What is compared before devices and an area are taken up as a store.
 
 ghost use Rattle.std.specs.Prelude.{◌≡◌, ◌<◌, ℕ, false, length, map, slice_get, All, IfErr, IfOk, IsTrue, OnOk};
-ghost use Rattle.vss_catalog.specs.Allowed.{IsCatalog};
-ghost use Rattle.vss_catalog.specs.Entries.{EntryValue, lists_of};
-ghost use Rattle.diff_map.specs.MapValue.{AreImages};
-ghost use Rattle.vss_names.specs.TextValue.{TextValue};
+ghost use Rattle.vss_catalog.specs.Entries.{IsCatalog, EntryValue, lists_of};
+ghost use Rattle.diff_map.specs.Copies.{AreImages};
+ghost use Rattle.vss_names.specs.Names.{TextValue};
 ghost use Rattle.image_store.specs.Opening.{AreWell, IsEntryFault, IsHeadFor, IsNameNew, IsNoHeadFor, IsPartsFault, names_of};
 
 use crate::cutting::newest_of;

@@ -4,8 +4,7 @@ ghost use Rattle.std.specs.Prelude.{◌≡◌, ◌⊎◌, false, ℕ, List, [], 
 ghost use Rattle.image_order.specs.Found.{AreAll};
 ghost use Rattle.image_order.specs.Order.{IsKnownIfGone};
 ghost use Rattle.image_order.specs.declared.name.Name.{Name as NameOf};
-ghost use Rattle.image_store.specs.Aims.{AreBegun, aims_of};
-ghost use Rattle.image_store.specs.Ordering.{AllLast, AreBrought, FoundBut, HasBut, IsHeadOf, OfAll};
+ghost use Rattle.image_store.specs.Ordering.{AreBegun, aims_of, AllLast, AreBrought, FoundBut, HasBut, IsHeadOf, OfAll};
 ghost use Rattle.image_store.specs.Plain.{PlainStore};
 ghost use Rattle.image_store.specs.PowerLoss.{IsUnderWay};
 ghost use Rattle.image_store.specs.StoreValue.{StoreValue, StandsAs, StandsStill};
@@ -25,10 +24,8 @@ impl<
     E: From<Failed> + From<OutOfMemory> + From<AllocError> + Drop,
 > Passes<E, Jobs<I, R>> for Store<D> {
     ghost use Rattle.std.specs.Prelude.{IsTrue};
-    ghost use Rattle.image_store.specs.Aims.{AreAtTheirEnd, AreCopiedSoFar, aims_of};
+    ghost use Rattle.image_store.specs.Ordering.{AreAtTheirEnd, AreCopiedSoFar, aims_of, AllLast, AreApart, AreBrought, CoversBut, HasBut, HoldsBut, MayOverwrite, OfAll, OpensBut};
     ghost use Rattle.image_store.specs.Head.{head_of};
-    ghost use Rattle.image_store.specs.Ordering.{AllLast, AreApart, AreBrought, CoversBut, HasBut, HoldsBut};
-    ghost use Rattle.image_store.specs.Ordering.{MayOverwrite, OfAll, OpensBut};
 
     ghost head = { λ store. head_of store };
 

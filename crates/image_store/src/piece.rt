@@ -1,6 +1,5 @@
 ghost use Rattle.std.specs.Prelude.{◌≡◌, ◌<◌, List, ℕ, Some, true, false, length, slice_get, IfErr, IfOk, IfSome, IsErrOf, OnOk};
-ghost use Rattle.block_data.specs.PayloadBytes.{payload_bytes};
-ghost use Rattle.block_data.specs.Runs.{zeros};
+ghost use Rattle.block_data.specs.BlockBytes.{payload_bytes, zeros};
 ghost use Rattle.cow_volume.specs.Calls.{HasCauseAt, HasImageCause, IsNow, IsQuiet, IsShown, IsUnfailed, is_among, sets_at};
 ghost use Rattle.vss_names.specs.Faults.{HasCause};
 
@@ -19,8 +18,8 @@ pub struct Piece {
 
 impl Model for Piece {
     ghost use Rattle.std.specs.Prelude.{List, ℕ};
-    ghost use Rattle.block_data.specs.PayloadBytes.{payload_bytes};
-    ghost use Rattle.image_store.specs.BlockPayload.{IsBlock};
+    ghost use Rattle.block_data.specs.BlockBytes.{payload_bytes};
+    ghost use Rattle.image_store.specs.Updating.{IsBlock};
 
     ghost Value = { List ℕ };
 

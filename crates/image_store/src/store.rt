@@ -1,11 +1,9 @@
 ghost use Rattle.std.specs.Prelude.{◌≡◌, ◌≢◌, ◌<◌, ◌≤◌, ◌*◌, ℕ, List, Some, None, Ok, true, false, length, replicate, map, slice_get, vec_capacity, is_some, All, IfOk, IfErr, IfSome, IsErrOf, IsNone, OnOk, OnErr, IsTrue};
 ghost use Rattle.std.specs.List.{AllPairs};
-ghost use Rattle.block_data.specs.Runs.{zeros};
-ghost use Rattle.diff_area.specs.Records.{free, AreRecords};
+ghost use Rattle.block_data.specs.BlockBytes.{zeros};
+ghost use Rattle.diff_area.specs.Format.{free, AreRecords};
 ghost use Rattle.diff_area.specs.AreaValue.{AreaValue};
-ghost use Rattle.vss_catalog.specs.Names.{bytes_in};
-ghost use Rattle.vss_catalog.specs.Entries.{lists_of};
-ghost use Rattle.vss_catalog.specs.Group.{are_names_for, entries_of};
+ghost use Rattle.vss_catalog.specs.Entries.{bytes_in, lists_of, are_names_for, entries_of};
 ghost use Rattle.vss_catalog.specs.Reading.{catalog_in};
 ghost use Rattle.vss_catalog.specs.Written.{bytes_of};
 ghost use Rattle.write_history.specs.History.{History};
@@ -13,31 +11,24 @@ ghost use Rattle.write_history.specs.Slots.{group_used, used_by};
 ghost use Rattle.cow_volume.specs.Calls.{DeviceRose, IsUnfailed, VolumeRose, blocks_at, history_at, is_among, sets_at};
 ghost use Rattle.cow_volume.specs.Ending.{AllTell, IsSync, IsTable};
 ghost use Rattle.cow_volume.specs.Resuming.{AreKept, NoneTell};
-ghost use Rattle.cow_volume.specs.StandsFor.{StandsFor};
+ghost use Rattle.cow_volume.specs.StandsFor.{StandsFor, GroupValue, placed};
 ghost use Rattle.vss_names.specs.Faults.{Rose};
 ghost use Rattle.image_store.specs.Plain.{PlainStore, fresh_store, plain_at};
 ghost use Rattle.image_store.specs.Steps.Step.{Cut, Dropped};
-ghost use Rattle.image_store.specs.StoreValue.{StandsAs, IsStep, StandsStill};
-ghost use Rattle.image_store.specs.Updating.{AreMarked, AreReady, IsAhead, IsOverwriting};
-ghost use Rattle.image_store.specs.Capturing.{AreCaptured, Gives, HasCaptured};
+ghost use Rattle.image_store.specs.StoreValue.{StandsAs, IsStep, StandsStill, AreApart, AreNoNames, AreOthers, IsNamed};
+ghost use Rattle.image_store.specs.Updating.{AreMarked, AreReady, IsAhead, IsOverwriting, AreCaptured, Gives, HasCaptured};
 ghost use Rattle.image_store.specs.Copying.{AreCopied, HasCopiesOf, IsAreaLeft, IsCopiedAhead};
 ghost use Rattle.image_store.specs.Ordering.{AllImages};
 ghost use Rattle.image_store.specs.PowerLoss.{IsCommitted, IsStillUnderWay, IsUnderWay};
-ghost use Rattle.cow_volume.specs.GroupValue.{GroupValue, placed};
-ghost use Rattle.volume_device.specs.Blocks.{AreBlocks};
-ghost use Rattle.image_store.specs.Showing.{HasLength, HasShowCause, IfBad, IsSeen, IsShow, shown_in};
-ghost use Rattle.image_store.specs.Written.{AreSameBut, AreWritten};
+ghost use Rattle.volume_device.specs.InMemory.{AreBlocks};
+ghost use Rattle.image_store.specs.Showing.{HasLength, HasShowCause, IfBad, IsSeen, IsShow, shown_in, AreSameBut, AreWritten};
 ghost use Rattle.image_store.specs.declared.which.Which.TheVariants.{Of};
-ghost use Rattle.image_store.specs.Reverting.{HasLists, IsRevert};
-ghost use Rattle.image_store.specs.Lists.{AreListsOf, other_sets};
-ghost use Rattle.image_store.specs.Cutting.{IsCutRefused, IsNextSet};
+ghost use Rattle.image_store.specs.Cutting.{HasLists, IsRevert, AreListsOf, other_sets, IsCutRefused, IsNextSet};
 ghost use Rattle.image_store.specs.Closing.{IsCloseFault, given_back};
 ghost use Rattle.image_store.specs.Failing.{IsPassFault, IsRevertFault, IsShowFault};
-ghost use Rattle.image_store.specs.Head.{head_of, said_of};
-ghost use Rattle.image_store.specs.Keeping.{IsKeptAs, blocks_of};
-ghost use Rattle.image_store.specs.Naming.{AreApart, AreNoNames, AreOthers, IsNamed};
+ghost use Rattle.image_store.specs.Head.{head_of, said_of, IsKeptAs, blocks_of};
 ghost use Rattle.image_store.specs.Opening.{AreParts, IsHeadFor, IsNoHeadFor, IsOpened, IsOpenFault, IsPartsFault, names_of};
-ghost use Rattle.vss_names.specs.TextValue.{TextValue};
+ghost use Rattle.vss_names.specs.Names.{TextValue};
 
 use crate::capture_fault::CaptureFault;
 use crate::capturing::capture_blocks;
@@ -86,7 +77,7 @@ pub struct Store<D: Device> {
 impl<D: Device> Model for Store<D> {
     ghost use Rattle.std.specs.Prelude.{◌≡◌, true};
     ghost use Rattle.image_store.specs.StoreValue.{StoreValue};
-    ghost use Rattle.vss_catalog.specs.Group.{are_names_for};
+    ghost use Rattle.vss_catalog.specs.Entries.{are_names_for};
 
     ghost Value = { StoreValue D };
 

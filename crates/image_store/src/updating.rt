@@ -3,14 +3,12 @@
 ghost use Rattle.std.specs.Prelude.{◌≡◌, ◌≢◌, ◌<◌, ◌≤◌, ◌+◌, ◌*◌, ℕ, List, Some, false, length, if◌then◌else◌, vec_capacity, IfErr, IfOk, IsTrue, OnErr, OnOk};
 ghost use Rattle.cow_volume.specs.Calls.{DeviceRose, IsUnfailed, blocks_at, sets_at};
 ghost use Rattle.cow_volume.specs.Room.{lacks_copy, lacks_slot};
-ghost use Rattle.diff_area.specs.Records.{used_in};
-ghost use Rattle.image_store.specs.Capturing.{Gives};
+ghost use Rattle.diff_area.specs.Format.{used_in};
+ghost use Rattle.image_store.specs.Updating.{Gives, IsCopying, IsWriting, AreMarked, AreReady};
 ghost use Rattle.image_store.specs.Copying.{AreCopied, IsAreaLeft, IsCopiedAhead, KeepsCopies};
 ghost use Rattle.image_store.specs.Failing.{IsPassFault};
-ghost use Rattle.image_store.specs.Passes.{IsCopying, IsWriting};
 ghost use Rattle.image_store.specs.Plain.{Plain, volume_in};
 ghost use Rattle.image_store.specs.StoreValue.{HasPlains, KeepsPlains};
-ghost use Rattle.image_store.specs.Updating.{AreMarked, AreReady};
 
 use crate::pass::Pass;
 use crate::pass_fault::PassFault;

@@ -1,7 +1,7 @@
 //! Which blocks of a volume were written between two cuts, by the records of the slots alone.
 
 ghost use Rattle.std.specs.Prelude.{◌≡◌, ◌||◌, ℕ, length, option_map, slice_get};
-ghost use Rattle.image_store.specs.Written.{AreWritten, is_between, is_written};
+ghost use Rattle.image_store.specs.Showing.{AreWritten, is_between, is_written};
 
 use crate::which::Which;
 use diff_area::{Area, Record};

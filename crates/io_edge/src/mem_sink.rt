@@ -1,7 +1,6 @@
 ghost use Rattle.std.specs.Prelude.{◌≡◌, ◌<◌, ◌≤◌, ◌↔◌, ◌⊎◌, ◌-◌, ◌++◌, Some, [], length, take, min, vec_capacity, IsErr, IsTrue, IfOk, OnErr};
-ghost use Rattle.io_edge.specs.MemSinkValue.{IsFull, MemSinkValue};
-ghost use Rattle.vss_names.specs.Faults.{HasCause, counted};
-ghost use Rattle.vss_names.specs.Schedules.{after_call, failing_at, fails_next};
+ghost use Rattle.io_edge.specs.Streams.{IsFull, MemSinkValue};
+ghost use Rattle.vss_names.specs.Faults.{HasCause, counted, after_call, failing_at, fails_next};
 
 use crate::sink::Sink;
 use std::alloc::Global;

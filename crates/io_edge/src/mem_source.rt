@@ -1,7 +1,6 @@
 ghost use Rattle.std.specs.Prelude.{◌≡◌, ◌<◌, ◌≤◌, ◌↔◌, ◌++◌, Some, [], length, take, drop, min, is_err, IfOk, OnErr};
-ghost use Rattle.io_edge.specs.MemSourceValue.{MemSourceValue};
-ghost use Rattle.vss_names.specs.Faults.{HasCause, counted};
-ghost use Rattle.vss_names.specs.Schedules.{after_call, failing_at, fails_next};
+ghost use Rattle.io_edge.specs.Streams.{MemSourceValue};
+ghost use Rattle.vss_names.specs.Faults.{HasCause, counted, after_call, failing_at, fails_next};
 
 use crate::source::Source;
 use std::marker::Model;

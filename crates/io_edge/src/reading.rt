@@ -1,6 +1,5 @@
 ghost use Rattle.std.specs.Prelude.{◌≡◌, ◌<◌, ◌≤◌, ◌↔◌, ◌⊎◌, ◌++◌, [], length, IfOk, IfSome, OnOk, IsErrOf, Some};
-ghost use Rattle.io_edge.specs.Messages.{message_of};
-ghost use Rattle.io_edge.specs.Streams.{Gave, GaveSome, IfGave};
+ghost use Rattle.io_edge.specs.Streams.{message_of, Gave, GaveSome, IfGave};
 ghost use Rattle.io_edge.specs.declared.reading.ReadError.TheVariants as error;
 ghost use Rattle.vss_names.specs.Faults.{Rose};
 

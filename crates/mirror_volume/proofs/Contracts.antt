@@ -21,11 +21,10 @@ use Rattle.mirror_volume.specs.Contract.{IsSame, IsNoLessReady, StandsAfter}
 use Rattle.mirror_volume.specs.Contract as contract
 use Rattle.mirror_volume.specs.Mirrors.{MirrorValue, StandsFor, faults_of, ready_count, tells, is_ready}
 use Rattle.mirror_volume.specs.MirrorCalls.{IsQuiet, IsQuietOn, HasCause, IsWrite, IsWritten, after_write, IsRead, IsImageRead, IsCut, IsDropped}
-use Rattle.mirror_volume.proofs.Among.{none_gone}
-use Rattle.mirror_volume.proofs.Held.{map-slice_set}
+use Rattle.mirror_volume.proofs.Counts.{none_gone}
+use Rattle.mirror_volume.proofs.Held.{map-slice_set, AllLater, AnyRose, all_later, all_rose, later_itself, later_set, rose_set, all_later_followed}
+use Rattle.mirror_volume.proofs.Held.{tells_followed, tells_set, ready_followed, ready_set, ready_split, ready_some}
 use Rattle.mirror_volume.proofs.Standing.{now_bytes, shown_bytes}
-use Rattle.mirror_volume.proofs.Ready.{AllLater, AnyRose, all_later, all_rose, later_itself, later_set, rose_set, all_later_followed, tells_followed, tells_set, ready_followed, ready_set, ready_split}
-use Rattle.mirror_volume.proofs.Ready.{ready_some}
 use Rattle.cow_volume.proofs.Merging.{and_left, and_right}
 
 all_at : {X : Type 0} → (test : X → Bool) (xs : List X) (k : ℕ) (x : X) → list_all test xs ≡ true → slice_get xs k ≡ Some x → test x ≡ true

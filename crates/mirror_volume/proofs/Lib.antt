@@ -1,15 +1,7 @@
 pub mod Counts
-pub mod Among
 pub mod Standing
 pub mod Held
-pub mod Ready
 pub mod Contracts
-pub mod Following
-pub mod Runs
-pub mod Steps
-pub mod CowContracts
 pub mod Keeping
-pub mod Saying
-pub mod Giving
 pub mod HavingSaid
 pub mod Flushing

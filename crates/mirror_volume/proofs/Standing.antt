@@ -6,8 +6,8 @@ use Rattle.std.proofs.lemmas.List.Elements.{All-head, All-tail}
 use Rattle.std.proofs.lemmas.Option.{same_Some, slice_get_within}
 use Rattle.std.proofs.lemmas.List.{length_push, map-append}
 use Rattle.std.proofs.lemmas.Grind.{common_steps}
-use Rattle.block_data.specs.Runs.{zeros}
-use Rattle.volume_device.specs.Blocks.{AreBlocks}
+use Rattle.block_data.specs.BlockBytes.{zeros}
+use Rattle.volume_device.specs.InMemory.{AreBlocks}
 use Rattle.volume_device.specs.declared.device.Device.{Ghosts}
 use Rattle.write_history.specs.History.{Write, Image, History, content, contents, point_in, sets_of, without_set, written, cut, dropped, fresh}
 use Rattle.cow_volume.specs.Calls.{is_among}
@@ -25,8 +25,7 @@ use Rattle.mirror_volume.specs.declared.synced.Synced.TheVariants.{Copied, InSte
 use Rattle.mirror_volume.specs.declared.sync_fault.SyncFault.{SyncFault}
 use Rattle.mirror_volume.specs.declared.sync_fault.SyncFault.TheVariants.{HoldsImage, Volume as DeviceFailed}
 use Rattle.mirror_volume.specs.Resync.{IsStep, IsSynced}
-use Rattle.mirror_volume.proofs.Counts.{in_step_all}
-use Rattle.mirror_volume.proofs.Among.{among_of_more, among_was}
+use Rattle.mirror_volume.proofs.Counts.{in_step_all, among_of_more, among_was}
 
 -- ## what is told
 

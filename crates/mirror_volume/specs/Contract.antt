@@ -1,19 +1,21 @@
 -- What every volume with images promises of its calls, whatever holds its blocks: a relation to a volume history, and four numbers
 -- that contracts see beside it: its blocks, the sets of its images, the cuts that it is ready for, and its count of faults; and the
 -- slots for the copies that its images need, by which images go for a write. (This project's own.)
-use Rattle.std.specs.Prelude.{ℕ, ◌≡◌, ◌<◌, ◌≤◌, ◌+◌, ◌⊎◌, Bool, true, false, List, [], ◌∷◌, length, is_some, Option, Some, None, Result, Ok, Err}
-use Rattle.vss_names.specs.Faults.{Rose}
-use Rattle.write_history.specs.History.{History, Write, content, point_in, written, dropped, cut}
+use Rattle.std.proofs.Common.{◌∙◌, ap, arith}
+use Rattle.std.specs.Prelude.{ℕ, ◌≡◌, ◌<◌, ◌≤◌, ◌+◌, ◌⊎◌, Bool, true, false, List, [], ◌∷◌, length, is_some, Option, Some, None, Result, Ok, Err, map}
+use Rattle.vss_names.specs.Faults.{Rose, all_counted}
+use Rattle.write_history.specs.History.{History, Write, content, point_in, written, dropped, cut, sets_of}
 use Rattle.write_history.specs.Slots.{evicted_up_to}
-use Rattle.cow_volume.specs.Calls.{is_among}
-use Rattle.cow_volume.specs.GroupValue.{placed}
-use Rattle.cow_volume.specs.OneVolume.{without_up_to}
+use Rattle.cow_volume.specs.Calls.{is_among, sets_in}
+use Rattle.cow_volume.specs.StandsFor.{placed, GroupValue}
+use Rattle.cow_volume.specs.OneVolume.{without_up_to, StandsForOne, image_sets}
 use Rattle.cow_volume.specs.declared.cause.Cause.{Cause}
 use Rattle.cow_volume.specs.declared.cause.Cause.TheVariants.{NoSuchBlock, Volume, Area}
-use Rattle.cow_volume.specs.declared.written.Written.{Written}
-use Rattle.cow_volume.specs.declared.write_fault.WriteFault.{WriteFault}
 use Rattle.cow_volume.specs.declared.image_fault.ImageFault.{ImageFault}
 use Rattle.cow_volume.specs.declared.image_fault.ImageFault.TheVariants.{NoSuchImage, NoSuchBlock as NoBlock, Volume as VolumeFailed, Area as AreaFailed}
+use Rattle.cow_volume.specs.declared.write_fault.WriteFault.{WriteFault}
+use Rattle.cow_volume.specs.declared.written.Written.{Written}
+use Rattle.cow_volume.proofs.Group.{place_at}
 
 -- ## what every call keeps
 
@@ -109,3 +111,20 @@ IsDropped stands sets old new set (Err fault) = (fault ≡ NoSuchImage) × (is_a
 abbrev pub IsCut : {V E : Type 0} → (V → History → Type 0) → (V → ℕ) → ℕ → V → V → ℕ → Result Unit E → Type 0
 IsCut stands ready per_cut old new set (Ok done) = (0 < ready old) × (ready old ≤ ready new + per_cut) × StandsAfter stands old new (cut set)
 IsCut stands ready per_cut old new set (Err refused) = (ready old ≡ 0) × (new ≡ old)
+
+-- ## A copy-on-write volume, as one of the volumes with images. (This project's own.)
+
+-- the counts of its devices together
+abbrev pub faults_of : {D : Type 0} → (D → ℕ) → GroupValue D → ℕ
+faults_of count volume = all_counted (count volume.area.device) (map count volume.devices)
+
+-- the slots for the copies of its images
+abbrev pub slots_of : {D : Type 0} → GroupValue D → Option ℕ
+slots_of volume = Some (length volume.area.records)
+
+-- its sets are those of the images of its history
+pub image_sets_are : {D : Type 0} → (told : D → Option (List (List ℕ))) (volume : GroupValue D) (h : History) → StandsForOne told volume h → image_sets volume ≡ sets_of h.images
+image_sets_are told volume h stood =
+    let within : 0 < length volume.area.volumes = (let one = stood.histories in omega arith) in
+    let place = place_at told volume (h ∷ []) 0 stood within in
+    ap sets_in place.sets_at ∙ place.stands.sets_are

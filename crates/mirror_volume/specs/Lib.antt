@@ -3,6 +3,4 @@ pub mod Stale
 pub mod Mirrors
 pub mod MirrorCalls
 pub mod Resync
-pub mod CowFaults
 pub mod Replies
-pub mod Messages

@@ -4,7 +4,7 @@ use Rattle.std.specs.Prelude.{Err, OnOk}
 use Rattle.vss_names.specs.Faults.{Rose}
 use Rattle.vss_names.specs.Faults as Faults
 use Rattle.vss_names.specs.declared.failed.Failed.{Failed}
-use Rattle.volume_device.specs.Blocks.{AreBlocks}
+use Rattle.volume_device.specs.InMemory.{AreBlocks}
 use Rattle.volume_device.specs.declared.device.Device.{Ghosts}
 use Rattle.write_history.specs.History.{History, Write, written}
 use Rattle.cow_volume.specs.Calls.{is_among}

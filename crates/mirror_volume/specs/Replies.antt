@@ -3,8 +3,7 @@
 use Rattle.std.specs.Prelude.{ℕ, ◌≡◌, ◌<◌, ◌≤◌, ◌+◌, ◌⊎◌, ◌==◌, Bool, true, false, List, [], ◌∷◌, ◌++◌, length, All, Option, Some, None}
 use Rattle.std.specs.List.{list_all}
 use Rattle.vss_names.specs.Faults.{Rose}
-use Rattle.block_data.specs.Digest.{sha256}
-use Rattle.block_data.specs.Runs.{run_of}
+use Rattle.block_data.specs.BlockBytes.{sha256, run_of}
 use Rattle.block_data.specs.declared.block_buf.TheConstants.{BLOCK}
 use Rattle.write_history.specs.History.{History, Write as Written, content, point_in, written, dropped, cut}
 use Rattle.cow_volume.specs.OneVolume.{without_up_to}

@@ -1,20 +1,23 @@
 -- How a mirror is brought into step with the primary again, block after block, the lowest stale block first. (This project's own.)
-use Rattle.std.specs.Prelude.{ℕ, ◌≡◌, ◌<◌, ◌⊎◌, ◌==◌, if◌then◌else◌, false, List, [], ◌∷◌, Option, Some, None, IfSome, slice_get, slice_set, option_map, Result, Ok, Err}
+use Rattle.std.specs.Fmt.{decimal}
+use Rattle.std.specs.Prelude.{ℕ, ◌≡◌, ◌<◌, ◌⊎◌, ◌==◌, if◌then◌else◌, false, List, [], ◌∷◌, Option, Some, None, IfSome, slice_get, slice_set, option_map, Result}
+use Rattle.std.specs.Prelude.{Ok, Err, ◌++◌, codes}
 use Rattle.vss_names.specs.Faults.{Rose}
 use Rattle.vss_names.specs.declared.failed.Failed.{Failed}
-use Rattle.volume_device.specs.Blocks.{AreBlocks}
+use Rattle.volume_device.specs.InMemory.{AreBlocks}
 use Rattle.volume_device.specs.declared.device.Device.{Ghosts}
 use Rattle.cow_volume.specs.declared.cause.Cause.{Cause}
 use Rattle.cow_volume.specs.declared.image_fault.ImageFault.{ImageFault}
+use Rattle.mirror_volume.specs.MirrorCalls.{IsAllFlushed, IsQuietDevice, IsRead, IsImageRead, IsCut, IsDropped, IsQuiet, IsMirrorFlush}
+use Rattle.mirror_volume.specs.Mirrors.{MirrorValue}
+use Rattle.mirror_volume.specs.Stale.{IsLowestStale, stale_count}
 use Rattle.mirror_volume.specs.declared.mirror.Mirror.{Mirror}
 use Rattle.mirror_volume.specs.declared.no_mirror.NoMirror.{NoMirror}
-use Rattle.mirror_volume.specs.declared.synced.Synced.{Synced}
-use Rattle.mirror_volume.specs.declared.synced.Synced.TheVariants.{Copied, InStep}
 use Rattle.mirror_volume.specs.declared.sync_fault.SyncFault.{SyncFault}
 use Rattle.mirror_volume.specs.declared.sync_fault.SyncFault.TheVariants.{HoldsImage, Volume}
-use Rattle.mirror_volume.specs.Stale.{IsLowestStale, stale_count}
-use Rattle.mirror_volume.specs.Mirrors.{MirrorValue}
-use Rattle.mirror_volume.specs.MirrorCalls.{IsAllFlushed, IsQuietDevice, IsRead, IsImageRead, IsCut, IsDropped, IsQuiet, IsMirrorFlush}
+use Rattle.mirror_volume.specs.declared.sync_fault.SyncFault.TheVariants as sync
+use Rattle.mirror_volume.specs.declared.synced.Synced.{Synced}
+use Rattle.mirror_volume.specs.declared.synced.Synced.TheVariants.{Copied, InStep}
 
 -- ## one block
 
@@ -139,3 +142,12 @@ AreCalls {D = D} ghosts old (call ∷ calls) new = (next : MirrorValue D) × IsC
 abbrev pub copied_on : ℕ → Call → ℕ
 copied_on k (Step j answer) = if j == k then copied_by answer else 0
 copied_on k _ = 0
+
+-- ## What is said of a cut and of a step of a mirror that were not made. (This project's own.)
+
+abbrev pub no_mirror_message : NoMirror → List ℕ
+no_mirror_message fault = codes "no mirror is ready"
+
+abbrev pub sync_message : SyncFault → List ℕ
+sync_message (sync.HoldsImage set) = codes "the mirror holds the image of set " ++ decimal set
+sync_message sync.Volume = codes "a device failed"

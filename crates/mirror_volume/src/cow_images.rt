@@ -1,7 +1,7 @@
 //! A copy-on-write volume is a volume with images. It is ready for a cut at any time.
 
 ghost use Rattle.cow_volume.specs.OneVolume.{StandsForOne, blocks_of, image_sets, tells};
-ghost use Rattle.mirror_volume.specs.CowFaults.{faults_of, image_sets_are, slots_of};
+ghost use Rattle.mirror_volume.specs.Contract.{faults_of, image_sets_are, slots_of};
 
 use crate::image_volume::ImageVolume;
 use crate::no_mirror::NoMirror;

@@ -1,5 +1,5 @@
 ghost use Rattle.std.specs.Prelude.{◌≡◌, ◌<◌, ℕ, Bool, List, Option, length, All, OnErr};
-ghost use Rattle.block_data.specs.PayloadBytes.{payload_bytes};
+ghost use Rattle.block_data.specs.BlockBytes.{payload_bytes};
 ghost use Rattle.write_history.specs.History.{History, sets_of};
 ghost use Rattle.mirror_volume.specs.Contract.{IsSame, IsNoLessReady, StandsStill, IsWrite, IsRead, IsImageRead, IsDropped, IsCut};
 

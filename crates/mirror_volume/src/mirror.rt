@@ -1,6 +1,6 @@
 ghost use Rattle.std.specs.Prelude.{◌≡◌, ◌<◌, ℕ, length, map, option_map, slice_set, IfOk, IfSome, IsNone, OnOk, OnErr};
 ghost use Rattle.vss_names.specs.Faults.{HasCause};
-ghost use Rattle.block_data.specs.PayloadBytes.{payload_bytes};
+ghost use Rattle.block_data.specs.BlockBytes.{payload_bytes};
 ghost use Rattle.mirror_volume.specs.Mirrors.{counts_from, mirror_over, is_held, is_ready};
 ghost use Rattle.mirror_volume.specs.MirrorCalls.{HaveBlock, IsCalled, AreCalled, AreLasting, IsMirrorRead, IsFollowed, AreFollowed, IsFirstReady, NoneReady, IsHolder, NoneHolds};
 

@@ -1,7 +1,6 @@
 ghost use Rattle.std.specs.Prelude.{◌≡◌, ◌<◌, ◌≤◌, [], Some, false, true, length, map, replicate, All, IfOk, IfErr, IfSome, OnOk, slice_get};
 ghost use Rattle.vss_names.specs.Faults.{HasCause};
-ghost use Rattle.block_data.specs.Runs.{zeros};
-ghost use Rattle.block_data.specs.PayloadBytes.{payload_bytes};
+ghost use Rattle.block_data.specs.BlockBytes.{zeros, payload_bytes};
 ghost use Rattle.write_history.specs.History.{History, contents, fresh, dropped, cut};
 ghost use Rattle.mirror_volume.specs.Mirrors.{AreMirrors, StandsFor, mirror_over, ready_count, EqualsPrimary};
 ghost use Rattle.mirror_volume.specs.MirrorCalls.{IsWrite, after_write, IsRead, IsImageRead, IsCut, IsDropped, IsQuiet, IsMirrorFlush, IsAllFlushed};

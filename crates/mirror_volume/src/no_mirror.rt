@@ -1,5 +1,5 @@
 ghost use Rattle.std.specs.Prelude.{Some};
-ghost use Rattle.mirror_volume.specs.Messages.{no_mirror_message};
+ghost use Rattle.mirror_volume.specs.Resync.{no_mirror_message};
 
 use std::error::Error;
 use std::fmt;

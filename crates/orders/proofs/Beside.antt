@@ -1,29 +1,183 @@
--- A run by the moves of a report, from its beginning to its own report, and that beside the text.
-use Rattle.std.proofs.Common.{◌≡◌, ℕ, ◌+◌, List, [], ◌∷◌, ◌++◌, refl, ap, sym, ◌∙◌, Bool, true, Option, Some, None, subst, arith, cond}
-use Rattle.std.specs.Prelude.{Result, Ok, Err, IfOk}
-use Rattle.std.proofs.lemmas.List.Sums.{sum_by-cons}
-use Rattle.vss_names.specs.TextValue.{TextValue}
+-- A run that was played to its end has the report of its trail; and a run by the moves of a report, beside the text.
+use Rattle.std.proofs.Common.{◌≡◌, ℕ, ◌+◌, ◌≤◌, List, [], ◌∷◌, ◌++◌, refl, ap, sym, ◌∙◌, arith, Bool, true, Option, subst, cond, inl, inr, Some, None}
+use Rattle.std.proofs.lemmas.List.Sums.{sum_by-cons, sum_by-append}
+use Rattle.std.specs.Prelude.{map, sum, ◌⊎◌, IsTrue, Result, Ok, Err, IfOk}
+use Rattle.vss_names.specs.Faults.{most}
+use Rattle.vss_names.specs.Names.{TextValue}
 use Rattle.volume_device.specs.declared.device.Device.{Ghosts}
 use Rattle.write_history.specs.declared.mark.Mark.{Mark}
 use Rattle.write_history.specs.declared.mark.Mark.TheVariants.{Clean}
 use Rattle.write_history.specs.declared.move_item.Move.{Move}
 use Rattle.cow_volume.specs.Calls.{NeverFails}
-use Rattle.cow_volume.proofs.Uncounted.{no_rise}
+use Rattle.cow_volume.proofs.RestoringMerged.{no_rise}
 use Rattle.scenario.specs.Plan.{Plan}
-use Rattle.vss_model.specs.Trail.{is_legal, is_complete, is_fault, faults}
-use Rattle.vss_report.specs.ToldReport.{told_report}
+use Rattle.vss_model.specs.Trail.{is_complete, is_fault, faults, is_legal}
+use Rattle.vss_report.specs.Report.{IsReport}
+use Rattle.vss_report.specs.ToldLines.{all_tell, told_report}
+use Rattle.vss_report.proofs.Telling.{only_told_report}
+use Rattle.vss_world.specs.Stands.{tells_of}
+use Rattle.vss_play.specs.Acting.{IsLedBy}
+use Rattle.vss_play.specs.Played.{Played, IsFresh, IsKept, IsOnward, IsPlayedInTurn, IsEnded, AreInTurn, tells_in}
 use Rattle.vss_play.specs.declared.play_fault.PlayFault.{PlayFault}
-use Rattle.vss_play.specs.Played.{Played, IsFresh}
+use Rattle.vss_play.proofs.FaultMarks.{complete_moved}
+use Rattle.orders.specs.Again.{IsRead, IsFollowedFar, IsReplayed, IsCompared, IsAgain, IsAgainOver, IsReplayOver, IsSame, IsSameOver, without_marks, OtherLine}
+use Rattle.orders.specs.Again.{first_other}
+use Rattle.orders.specs.Drawn.{AreDrawn, IsPlayedAsDrawn}
+use Rattle.orders.specs.Followed.{actors_of, IsFollowed, IsHaltedAt, IsEndedInTurn}
+use Rattle.orders.specs.Runs.{IsOfTrail, IsOrdered, IsOfSeed, IsHalted, IsUnplayed, unplayed_at}
+use Rattle.orders.specs.declared.entry.Entry.{Entry}
+use Rattle.orders.specs.declared.halted.Halted.{Halted}
+use Rattle.orders.specs.declared.halted.Halted.TheVariants.{At}
+use Rattle.orders.specs.declared.halted.Halted.TheVariants as halt
 use Rattle.orders.specs.declared.replayed.Replayed.{Replayed}
 use Rattle.orders.specs.declared.replayed.Replayed.TheVariants.{Same, Differs, ScenarioRefused, DeviceFault, OutOfMemory}
-use Rattle.orders.specs.Again.{IsRead, IsFollowedFar, IsReplayed, IsCompared, IsAgain, IsAgainOver, IsReplayOver, IsSame, IsSameOver, without_marks}
-use Rattle.orders.specs.Followed.{IsEndedInTurn}
-use Rattle.orders.specs.Runs.{IsOfTrail}
-use Rattle.orders.specs.Told.{OtherLine, first_other}
-use Rattle.orders.proofs.OneDrawn.{parts}
-use Rattle.orders.proofs.OtherLines.{same_text, none_of_report}
-use Rattle.orders.proofs.Replay.{moves_back, replays_it}
-use Rattle.orders.proofs.Reporting.{StandsAt, in_turn_as, of_trail_in_turn, none_marked, both_none}
+use Rattle.orders.specs.declared.why.Why.{Why}
+use Rattle.orders.proofs.Replay.{parts, same_text, none_of_report, moves_back, replays_it}
+
+-- ## A run that was played to its end has the report of its trail.
+
+none_counted : {D : Type 0} (count : D → ℕ) → NeverFails count → (ds : List D) → sum (map count ds) ≡ 0
+none_counted count never [] = refl
+none_counted count never (d ∷ ds) =
+    let all = sum_by-cons (λ (n : ℕ). n) (count d) (map count ds) in
+    let here = never d in
+    let rest = none_counted count never ds in
+    omega arith
+
+-- where no device ever fails, a run goes on without a fault mark
+pub none_marked : {D : Type 0} (ghosts : Ghosts D) (p q : Played D) (h : IsOnward ghosts p q) → NeverFails ghosts.count → faults h.rest ≡ 0
+none_marked ghosts p q h never =
+    none (faults h.rest) (sum (map ghosts.count p.devices)) (sum (map ghosts.count q.devices)) (none_counted ghosts.count never q.devices) h.faults
+  where
+    none : (n a b : ℕ) → b ≡ 0 → (n + a ≤ b) ⊎ (most ≤ b) → n ≡ 0
+    none n a b e (inl l) = omega arith
+    none n a b e (inr l) = omega arith
+
+pub both_none : (one two : List Move) → faults one ≡ 0 → faults two ≡ 0 → faults (one ++ two) ≡ 0
+both_none one two e f = let all = sum_by-append (λ (m : Move). cond (is_fault m.mark) 1 0) one two in omega arith
+
+-- a run as it stands before its end: its plan, its trail, and which volumes tell
+pub record StandsAt {D : Type 0} (told : D → Option (List (List ℕ))) (tells : Bool) (s : Plan) (trail : List Move) (q : Played D) : Type 0 where
+  pub plan : q.plan ≡ s
+  pub trail_is : q.trail ≡ trail
+  pub tell : IsTrue tells → tells_in told q ≡ all_tell s
+
+unfoldable pub onward_stands : {D : Type 0} (ghosts : Ghosts D) (tells : Bool) (s : Plan) (p q : Played D) → IsFresh ghosts tells s p
+    → (h : IsOnward ghosts p q) → StandsAt ghosts.told tells s h.rest q
+onward_stands ghosts tells s p q fresh h = record {
+  plan = h.plan ∙ fresh.plan;
+  trail_is = h.trail ∙ ap (λ (ms : List Move). ms ++ h.rest) fresh.trail;
+  tell = λ t. h.tells ∙ fresh.tell t;
+}
+
+pub stands_on : {D : Type 0} (ghosts : Ghosts D) (tells : Bool) (s : Plan) (trail : List Move) (q r : Played D) → StandsAt ghosts.told tells s trail q
+    → (h : IsOnward ghosts q r) → StandsAt ghosts.told tells s (trail ++ h.rest) r
+stands_on ghosts tells s trail q r at h = record {
+  plan = h.plan ∙ at.plan;
+  trail_is = h.trail ∙ ap (λ (ms : List Move). ms ++ h.rest) at.trail_is;
+  tell = λ t. h.tells ∙ at.tell t;
+}
+
+pub of_trail : {D : Type 0} (ghosts : Ghosts D) (tells : Bool) (s : Plan) (trail : List Move) (q : Played D)
+    (places : ℕ) (kept_first kept_last : Option (List D)) (first last : ℕ) (text : TextValue)
+    → StandsAt ghosts.told tells s trail q → is_complete q.plan q.trail ≡ true → IsEnded ghosts q places kept_first kept_last first last (Ok text) → IsOfTrail tells s trail text.bytes
+of_trail {D} ghosts tells s trail q places kept_first kept_last first last text at complete ended =
+    let r : Played D = ended.new in
+    let quiet = ended.quiet in
+    let kept = ended.keeps in
+    let plan_is : r.plan ≡ s = quiet.plan ∙ at.plan in
+    let trail_is : r.trail ≡ trail = quiet.trail ∙ at.trail_is in
+    let tell : IsTrue tells → tells_of ghosts.told r.plan r.devices ≡ all_tell r.plan = λ t. quiet.tells ∙ at.tell t
+    ∙ ap (λ (x : Plan). all_tell x) (sym plan_is) in
+    subst (λ (x : Plan). IsOfTrail tells x trail text.bytes) plan_is (subst (λ (ms : List Move). IsOfTrail tells r.plan ms text.bytes) trail_is (record {
+      legal = kept.legal;
+      complete = complete_moved ghosts q r quiet complete;
+      only = λ t. only_told_report r.plan r.trail text.bytes (subst (λ (bs : List Bool). IsReport r.plan bs r.trail text.bytes) (tell t) ended.ends.0);
+    }))
+
+-- ## by an order
+
+pub in_turn_as : {D : Type 0} (told : D → Option (List (List ℕ))) (tells : Bool) (s : Plan) (trail : List Move) (q : Played D) (rest : List Move) → StandsAt told tells s trail q
+    → AreInTurn q.plan q.trail rest → AreInTurn s trail rest
+in_turn_as told tells s trail q rest at h = subst (λ (ms : List Move). AreInTurn s ms rest) at.trail_is (subst (λ (x : Plan). AreInTurn x q.trail rest) at.plan h)
+
+pub ended_in_turn : {D : Type 0} (ghosts : Ghosts D) (p q : Played D) (places : ℕ) (kept_first kept_last : Option (List D))
+    (first last : ℕ) (result : Result TextValue PlayFault)
+    → IsPlayedInTurn ghosts p q → IsEnded ghosts q places kept_first kept_last first last result → IfOk result (IsEndedInTurn ghosts p)
+ended_in_turn ghosts p q places kept_first kept_last first last (Ok text) turned ended =
+    record { last = q; turned = turned; places = places; kept_before = kept_first; kept_now = kept_last; count_before = first; count_now = last; ended = ended }
+ended_in_turn ghosts p q places kept_first kept_last first last (Err e) turned ended = tt
+
+-- the report of what was made first and of what came in turn
+pub of_trail_in_turn : {D : Type 0} (ghosts : Ghosts D) (tells : Bool) (s : Plan) (first : List Move) (q : Played D)
+    (text : TextValue) → StandsAt ghosts.told tells s first q → (h : IsEndedInTurn ghosts q text) → IsOfTrail tells s (first ++ h.turned.played.onward.rest) text.bytes
+of_trail_in_turn ghosts tells s first q text at h =
+    of_trail ghosts tells s _ h.last h.places h.kept_before h.kept_now h.count_before h.count_now text (stands_on ghosts tells s first q h.last at h.turned.played.onward)
+    h.turned.played.complete h.ended
+
+pub ordered : {D : Type 0} (ghosts : Ghosts D) (tells : Bool) (s : Plan) (entries : List Entry) (p q : Played D)
+    (text : TextValue) → IsFresh ghosts tells s p → IsLedBy ghosts p (actors_of entries) q → IsEndedInTurn ghosts q text → IsOrdered ghosts.count tells s entries text.bytes
+unfolding onward_stands
+ordered ghosts tells s entries p q text fresh led h =
+    let begun = onward_stands ghosts tells s p q fresh led.onward in
+    record {
+      first = led.onward.rest;
+      rest = h.turned.played.onward.rest;
+      begins = led.by;
+      in_turn = in_turn_as ghosts.told tells s led.onward.rest q h.turned.played.onward.rest begun h.turned.in_turn;
+      reported = record {
+        of_trail = of_trail_in_turn ghosts tells s led.onward.rest q text begun h;
+        unmarked = λ never. both_none led.onward.rest h.turned.played.onward.rest (none_marked ghosts p q led.onward never) (none_marked ghosts q h.last h.turned.played.onward never);
+      };
+    }
+
+-- the moves before an entry that may not come
+pub halted : {D : Type 0} (ghosts : Ghosts D) (tells : Bool) (s : Plan) (entries : List Entry) (p q : Played D) (entry : Entry) (why : Why)
+    → IsFresh ghosts tells s p → IsHaltedAt ghosts p q entries entry why → IsKept ghosts.told q → IsHalted ghosts.count s entries entry why
+halted {D} ghosts tells s entries p q entry why fresh h kept =
+    let plan_is : q.plan ≡ s = h.led.onward.plan ∙ fresh.plan in
+    let begins = onward_stands ghosts tells s p q fresh h.led.onward in
+    subst (λ (x : Plan). IsHalted ghosts.count x entries entry why) plan_is (record {
+      place = h.place;
+      is_entry = h.is_entry;
+      trail = q.trail;
+      legal = kept.legal;
+      begins = ap (λ (ms : List Move). map (λ (m : Move). m.actor) ms) begins.trail_is ∙ h.led.by;
+      may_not = h.may_not;
+      unmarked = λ never. ap faults begins.trail_is ∙ none_marked ghosts p q h.led.onward never;
+    })
+
+pub unplayed_so : {D : Type 0} (ghosts : Ghosts D) (tells : Bool) (s : Plan) (entries : List Entry) (p q : Played D) (first last : ℕ) (halted_by : Halted)
+    → IsFresh ghosts tells s p → IsFollowed ghosts p q entries (Err halted_by) → IsKept ghosts.told q
+    → IsUnplayed ghosts.count s entries first last (unplayed_at halted_by)
+unplayed_so ghosts tells s entries p q first last (At entry why) fresh h kept = halted ghosts tells s entries p q entry why fresh h kept
+unplayed_so ghosts tells s entries p q first last halt.OutOfMemory fresh h kept = tt
+
+-- ## by draws
+
+pub of_seed : {D : Type 0} (ghosts : Ghosts D) (tells : Bool) (s : Plan) (number : ℕ) (p r : Played D)
+    (places : ℕ) (kept_first kept_last : Option (List D)) (first last : ℕ) (text : TextValue)
+    → IsFresh ghosts tells s p → IsPlayedAsDrawn ghosts number p r → IsEnded ghosts r places kept_first kept_last first last (Ok text) → IsOfSeed ghosts.count tells s number text.bytes
+of_seed ghosts tells s number p r places kept_first kept_last first last text fresh drawn ended =
+    let whole = onward_stands ghosts tells s p r fresh drawn.onward in
+    record {
+      trail = drawn.onward.rest;
+      drawn = subst (λ (ms : List Move). AreDrawn s number ms drawn.onward.rest) fresh.trail (subst (λ (x : Plan). AreDrawn x number p.trail drawn.onward.rest) fresh.plan drawn.drawn);
+      reported = record {
+        of_trail = of_trail ghosts tells s _ r places kept_first kept_last first last text whole drawn.complete ended;
+        unmarked = λ never. none_marked ghosts p r drawn.onward never;
+      };
+    }
+
+pub of_seed_if : {D : Type 0} (ghosts : Ghosts D) (tells : Bool) (s : Plan) (number : ℕ) (p r : Played D)
+    (places : ℕ) (kept_first kept_last : Option (List D)) (first last : ℕ) (result : Result TextValue PlayFault)
+    → IsFresh ghosts tells s p → IsPlayedAsDrawn ghosts number p r → IsEnded ghosts r places kept_first kept_last first last result
+    → IfOk result (λ text. IsOfSeed ghosts.count tells s number text.bytes)
+of_seed_if ghosts tells s number p r places kept_first kept_last first last
+    (Ok text) fresh drawn ended = of_seed ghosts tells s number p r places kept_first kept_last first last text fresh drawn ended
+of_seed_if ghosts tells s number p r places kept_first kept_last first last (Err e) fresh drawn ended = tt
+
+-- ## A run by the moves of a report, from its beginning to its own report, and that beside the text.
 
 -- ## to the report
 

@@ -17,8 +17,7 @@ use Rattle.vss_model.specs.Trail.{Run, run, event_of, may_move, allows, is_legal
 use Rattle.vss_model.proofs.Appending.{is_legal-append, faults-append}
 use Rattle.vss_play.specs.Played.{Played, run_of, Stays, IsKept, IsMovedOn}
 use Rattle.orders.specs.Again.{IsFollowedFar}
-use Rattle.orders.proofs.OneDrawn.{parts}
-use Rattle.orders.proofs.Replay.{may_never}
+use Rattle.orders.proofs.Replay.{parts, may_never}
 
 -- ## legal trails
 

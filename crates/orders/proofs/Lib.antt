@@ -1,9 +1,4 @@
-pub mod Led
-pub mod Reporting
 pub mod Goers
-pub mod OneDrawn
-pub mod OtherLines
-pub mod Quiet
+pub mod Beside
 pub mod Replay
 pub mod Far
-pub mod Beside

@@ -1,5 +1,7 @@
--- What a replay of a report promises. (This project's own.)
-use Rattle.std.specs.Prelude.{ℕ, ◌≡◌, ◌++◌, Bool, true, false, IsTrue, List, [], ◌∷◌, map, Some, None, Result, Ok, Err}
+-- What a replay of a report promises, and where a text is another than a report, line by line. (This project's own.)
+use Rattle.std.specs.Prelude.{ℕ, ◌+◌, ◌&&◌, ◌||◌, not, Bool, List, [], ◌∷◌, Option, Some, None, if◌then◌else◌, ◌≡◌, ◌++◌, true, false, IsTrue, map, Result, Ok}
+use Rattle.std.specs.Prelude.{Err}
+use Rattle.std.specs.Str.{bytes_eq}
 use Rattle.vss_names.specs.Faults.{Rose}
 use Rattle.vss_names.specs.declared.out_of_memory.OutOfMemory.{OutOfMemory}
 use Rattle.volume_device.specs.declared.device.Device.{Ghosts}
@@ -7,18 +9,42 @@ use Rattle.write_history.specs.declared.mark.Mark.TheVariants.{Clean}
 use Rattle.write_history.specs.declared.move_item.Move.{Move}
 use Rattle.cow_volume.specs.Calls.{NeverFails, counted_as}
 use Rattle.scenario.specs.Bounds.{IsPlan}
+use Rattle.scenario.specs.Grammar.{reading_of, IsScenario, IsBad}
 use Rattle.scenario.specs.Named.{HasNames}
 use Rattle.scenario.specs.Plan.{Plan}
-use Rattle.scenario.specs.Grammar.{reading_of, IsScenario, IsBad}
 use Rattle.vss_model.specs.Trail.{is_legal_move, is_legal, is_complete, faults}
 use Rattle.vss_report.specs.Legible.{IsLegibleTrail}
+use Rattle.vss_report.specs.Pieces.{pieces_at, is_over}
 use Rattle.vss_report.specs.ReadBack.{moves_told}
-use Rattle.vss_report.specs.ToldReport.{all_tell, told_report}
+use Rattle.vss_report.specs.ToldLines.{all_tell, told_report}
 use Rattle.vss_play.specs.Played.{Played, run_of, tells_in, Stays, IsMovedOn, AreInTurn}
+use Rattle.orders.specs.Runs.{IsOfTrail, IsReported}
 use Rattle.orders.specs.declared.replayed.Replayed.{Replayed}
 use Rattle.orders.specs.declared.replayed.Replayed.TheVariants.{Same, Differs, ScenarioRefused, DeviceFault, OutOfMemory as WantsMemory}
-use Rattle.orders.specs.Runs.{IsOfTrail, IsReported}
-use Rattle.orders.specs.Told.{first_other}
+
+-- ## Where a text is another than a report, line by line. (This project's own.)
+
+-- the number of a line, from 1, and the report's line there
+pub record OtherLine : Type 0 where
+  pub line : ℕ
+  pub wanted : List ℕ
+
+-- both texts end, or both go on
+abbrev pub end_both : List (List ℕ) → List (List ℕ) → Bool
+end_both xs ys = (is_over xs && is_over ys) || (not (is_over xs) && not (is_over ys))
+
+-- the first of these lines, from number n on, that is another than the report's, or after which one text ends and the other goes on
+abbrev pub other_from : ℕ → List (List ℕ) → List (List ℕ) → Option OtherLine
+other_from n [] ys = None
+other_from n (a ∷ xs) [] = None
+other_from n (a ∷ xs) (b ∷ ys) =
+    if bytes_eq a b && end_both xs ys then other_from (n + 1) xs ys else Some (record { line = n; wanted = b })
+
+-- the first line of a text that is another than the report's
+abbrev pub first_other : List ℕ → List ℕ → Option OtherLine
+first_other text report = other_from 1 (pieces_at 10 text 0) (pieces_at 10 report 0)
+
+-- ## What a replay of a report promises. (This project's own.)
 
 -- ## the moves of a text
 

@@ -1,6 +1,6 @@
 -- A run whose moves are made in an order, as far as they may come. (This project's own.)
 use Rattle.std.specs.Prelude.{ℕ, ◌≡◌, true, false, List, map, take, Some, slice_get, Option, Result, Ok, Err}
-use Rattle.vss_names.specs.TextValue.{TextValue}
+use Rattle.vss_names.specs.Names.{TextValue}
 use Rattle.volume_device.specs.declared.device.Device.{Ghosts}
 use Rattle.write_history.specs.declared.actor.Actor.{Actor}
 use Rattle.write_history.specs.declared.move_item.Move.{Move}

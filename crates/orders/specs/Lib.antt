@@ -1,8 +1,6 @@
-pub mod Lines
 pub mod Order
 pub mod Followed
 pub mod Drawn
 pub mod Runs
 pub mod Calls
-pub mod Told
 pub mod Again

@@ -6,7 +6,7 @@ use Rattle.write_history.specs.declared.move_item.Move.{Move}
 use Rattle.scenario.specs.Plan.{Plan}
 use Rattle.cow_volume.specs.Calls.{NeverFails}
 use Rattle.vss_model.specs.Trail.{is_legal, is_complete, faults}
-use Rattle.vss_report.specs.ToldReport.{told_report}
+use Rattle.vss_report.specs.ToldLines.{told_report}
 use Rattle.vss_play.specs.Played.{AreInTurn}
 use Rattle.orders.specs.declared.entry.Entry.{Entry}
 use Rattle.vss_play.specs.declared.play_fault.PlayFault.{PlayFault}

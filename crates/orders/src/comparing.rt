@@ -3,7 +3,7 @@
 ghost use Rattle.std.specs.Prelude.{◌≡◌, ◌≤◌, Some, None, length, IfSome, IfNone};
 ghost use Rattle.vss_report.specs.Pieces.{pieces_at};
 ghost use Rattle.orders.specs.declared.telling.TheConstants.{MOST_BYTES};
-ghost use Rattle.orders.specs.Told.{first_other, end_both};
+ghost use Rattle.orders.specs.Again.{first_other, end_both};
 
 use crate::other::Other;
 use vss_report::pieces::{is_over, piece_at};

@@ -5,7 +5,7 @@
 //! moves with their fault marks over devices of which no call fails, and compares: the text is `Same` exactly where it is such a report,
 //! of a trail that is legible. `report_of_told` goes on in turn behind the moves that a text tells. Every other status has its cause in the texts or
 //! in a count of faults that rose; want of memory alone has none. `specs/Calls.antt` and `specs/Again.antt` have what they promise,
-//! `specs/Lines.antt` and `specs/Order.antt` which text is which order, `specs/Drawn.antt` which order a number draws.
+//! `specs/Order.antt` which text is which order, `specs/Drawn.antt` which order a number draws.
 //!
 //! A run may be over devices of any maker: over those of `SureMaker`, of which no call ever fails, no move has a fault mark.
 #![tactic(auto)]

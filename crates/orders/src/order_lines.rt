@@ -4,7 +4,7 @@ ghost use Rattle.std.specs.Prelude.{◌≡◌};
 ghost use Rattle.write_history.specs.declared.trail.TheConstants.{MOST_MOVES};
 ghost use Rattle.scenario.specs.Numbers as numbers;
 ghost use Rattle.vss_report.specs.Pieces.{pieces_at};
-ghost use Rattle.orders.specs.Lines as lines;
+ghost use Rattle.orders.specs.Order as lines;
 
 use crate::asked::Asked;
 use scenario::numbers::number_in;

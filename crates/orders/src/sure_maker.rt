@@ -1,5 +1,5 @@
 ghost use Rattle.std.specs.Prelude.{◌≡◌, [], Some, None, true};
-ghost use Rattle.volume_device.specs.Made.{plan_of, names_of, places_of};
+ghost use Rattle.volume_device.specs.InMemory.{plan_of, names_of, places_of};
 
 use crate::sure_device::SureDevice;
 use std::alloc::Global;

@@ -45,8 +45,7 @@ module _ (s : Plan) (st : State) (lane : ℕ) where
 
   owned_tells : (o : Op) (b : Bool) (v : Verdict)
       → (is_accepted (judged v s lane o st).0 ≡ true → (judged v s lane o st).0 ≡ (line_in s lane o st.session st).0)
-      → is_accepted (judged (owner_only b v) s lane o st).0 ≡ true
-      → (judged (owner_only b v) s lane o st).0 ≡ (line_in s lane o st.session st).0
+      → is_accepted (judged (owner_only b v) s lane o st).0 ≡ true → (judged (owner_only b v) s lane o st).0 ≡ (line_in s lane o st.session st).0
   owned_tells o b v h e = grind arith
 
   pub tells : (c : SessionCall) (o : Op) (q : Session) → st.session ≡ Some q → check st.session (runs st) lane c ≡ check_other st.session (runs st) lane c
@@ -206,9 +205,7 @@ module _ (s : Plan) (so_far : List Act) (lane : ℕ) where
   told_call c o same k e = by_session st.session refl where
     by_session : (x : Option Session) → st.session ≡ x → IsAccepting st o (called c s lane o st).0
     by_session None f = absurd (true_not_false (is_accepted (called c s lane o st).0) e (no_session s st lane is_accepted refl refl o c f same))
-    by_session (Some q) f =
-        let is = tells s st lane c o q f same e in
-        subst (IsAccepting st o) (sym is) (k q (ap is_accepted (sym is) ∙ e))
+    by_session (Some q) f = let is = tells s st lane c o q f same e in subst (IsAccepting st o) (sym is) (k q (ap is_accepted (sym is) ∙ e))
 
   told_line : (o : Op) (mark : Mark) → is_ordered o ≡ true → is_accepted (happens s (Line lane o) mark st).0 ≡ true → IsAccepting st o (happens s (Line lane o) mark st).0
   told_line o mark e = grind (arith, told_call, component_fine, add_fine, pending_told)

@@ -4,7 +4,7 @@
 use Rattle.std.proofs.Common.{◌≡◌, ◌∙◌, ℕ, ◌+◌, ◌==◌, List, [], ◌∷◌, ◌++◌, ◌⊎◌, Option, Some, None, refl, Bool, true, false, ap, sym, subst, inl, inr, map, fold}
 use Rattle.std.specs.Prelude.{is_some, ◌&&◌, not, if◌then◌else◌, length}
 use Rattle.std.proofs.Common.{arith}
-use Rattle.promises.proofs.Words.{append_nothing, Order, SetOutcome, VssResult, BadState, InsufficientStorage, AsyncPending, AsyncCancelled, Said, is_ok, Mark}
+use Rattle.promises.proofs.Words.{append_nothing, Order, SetOutcome, VssResult, InsufficientStorage, AsyncPending, AsyncCancelled, Said, is_ok, Mark}
 use Rattle.promises.proofs.Words.{Write, dropped, said_of, Group, Kind, Gather, Prepare, Snapshot, Complete, Member, Agenda, Open, order_of, groups_left, left}
 use Rattle.promises.proofs.Words.{open_group, next_volume, open_place, open_order, order_now, is_done, is_working, all_say, spent_of, takers, Session, opened}
 use Rattle.promises.proofs.Words.{Op, begins_agenda, Target, target_of, Plan, Event, Reply, Fine, Coded, Deleted, Idled, Stepped, State, SetRow, Kept, start}
@@ -13,9 +13,9 @@ use Rattle.promises.proofs.Words.{happens, reply_is, reply, after, state, is_pen
 use Rattle.promises.proofs.Words.{running_incomplete, incomplete_map, incomplete_append, complete_found, Deed, Spoke, Made, deeds_lost, deeds_of, deeds_if}
 use Rattle.promises.proofs.Words.{is_snapshot_line, way_after, way_from, way, Covers, covered, after_enabled, after_not_enabled, not_complete, Course, posted}
 use Rattle.promises.proofs.Words.{settled, begun, gathered, prepared, snapshot_begun, completing, change_at, stepped as course_stepped, limits_now, fails_set}
-use Rattle.promises.proofs.Words.{released, Line, Provider, Idle, runs, followed, failed_in, failed, Replied, refused, cleared, with_room_if, put, write}
+use Rattle.promises.proofs.Words.{released, Line, Provider, Idle, runs, followed, failed_in, failed, Replied, cleared, with_room_if, put, write}
 use Rattle.promises.proofs.Words.{reverted_as, start_set, change_set, disable, closed, step_made, stepped_as, ticked, later, set_loses_image, new_set}
-use Rattle.promises.proofs.Words.{new_number, with_volume, has_no_volume, volumes_of, is_disabled, selected, is_flush, is_failed_step, line_ticks, lost_after}
+use Rattle.promises.proofs.Words.{new_number, with_volume, volumes_of, is_disabled, selected, is_flush, is_failed_step, line_ticks, lost_after}
 use Rattle.promises.proofs.Words.{lost_order, lost_order_if, unspoken, changed_number, changed_result, begun_incomplete}
 use Rattle.vss_names.specs.declared.set_outcome.SetOutcome.TheVariants.{Running as RunningSet}
 use Rattle.writer_calls.specs.declared.answer.Answer.{Answer}
@@ -24,10 +24,10 @@ use Rattle.scenario.specs.declared.op.Op.TheVariants as op
 use Rattle.vss_model.specs.declared.event.Event.TheVariants.{Answer as AnswerEvent}
 use Rattle.vss_model.proofs.StateForm.{answered, stepped}
 use Rattle.vss_model.specs.Effects.{lost}
-use Rattle.vss_model.proofs.LogRule.{Running}
-use Rattle.promises.proofs.BusyAgendas.{course_followed}
-use Rattle.promises.proofs.Clock.{clock-answered, clock-stepped_as, clock-ticked, write_ticks}
-use Rattle.promises.proofs.Incomplete.{done_followed, incomplete_closed, incomplete_failed, incomplete_made, incomplete_revert, incomplete_write}
+use Rattle.vss_model.proofs.Rules.{Running}
+use Rattle.promises.proofs.CourseRows.{course_followed}
+use Rattle.promises.proofs.Moves.{clock-answered, clock-stepped_as, clock-ticked, write_ticks}
+use Rattle.promises.proofs.OpenGroup.{done_followed, incomplete_closed, incomplete_failed, incomplete_made, incomplete_revert, incomplete_write}
 use Rattle.promises.proofs.Speaks.{deed_in, said_at, Speaks, Grows, made_now, lost_told, grows_answered, grows_stepped, grows_timed}
 use Rattle.promises.proofs.Stages.{deeds_append}
 
@@ -156,10 +156,6 @@ module _ (G : Agenda → Type 0) (k : IsKeptAlong G) where
     abbrev Next : Event → Mark → Replied → Type 0
     Next event mark x = Stands (next_way st so_far event x) x.1 × Completes (next_way st so_far event x) x.1
 
-    either : (event : Event) (mark : Mark) (b : Bool) (x y : Replied) → Next event mark x → Next event mark y → Next event mark (if b then x else y)
-    either event mark true x y e f = e
-    either event mark false x y e f = f
-
     -- a line that tells nothing
     tells_none : (lane : ℕ) (o : Op) (mark : Mark) (told : Reply) (x : State) → line_ticks o ≡ None → (is_snapshot_line (Line lane o) && is_pending told) ≡ false → Stands so_far x
         → (has_complete st.sets n ≡ false → has_complete x.sets n ≡ false) → Next (Line lane o) mark (told, x)
@@ -265,13 +261,10 @@ module _ (G : Agenda → Type 0) (k : IsKeptAlong G) where
       adds = λ lane v r q mark g e f. tells_none lane (op.Add v) mark Fine (change_set r.number (with_volume v) st) refl refl h
           (incomplete_map (row_changed r.number (with_volume v)) (λ y. changed_number (y.number == r.number) (with_volume v) y refl)
           (λ y. changed_result (y.number == r.number) (with_volume v) y refl) n st.sets);
-      prepares = λ lane q mark g. either (Line lane op.Prepare) mark (has_no_volume (in_progress st)) (refused BadState st) _ (line_stays lane op.Prepare mark (Coded BadState) refl (λ b. refl))
-          (begins_other lane op.Prepare mark (prepared (takers (length s.writers) (selected s q st)) st.clock st.course) refl refl
-          (on_begun Prepare _ [] st.clock so_far _ (λ x. absurd cc)) (λ run. begun_incomplete Prepare _ [] st.clock _ run));
-      snapshots = λ lane q mark g. either (Line lane op.Snapshot) mark (has_no_volume (in_progress st)) (refused BadState st) _ (line_stays lane op.Snapshot mark (Coded BadState) refl (λ b. refl))
-          (begins_own lane mark (snapshot_begun (volumes_of (in_progress st)) st.clock st.course)
-          (on_begun Snapshot st.course.members _ st.clock [] st.course (λ x. refl))
-          (λ run. begun_incomplete Snapshot st.course.members _ st.clock st.course run));
+      prepares = λ lane q mark g f. begins_other lane op.Prepare mark (prepared (takers (length s.writers) (selected s q st)) st.clock st.course) refl refl
+          (on_begun Prepare _ [] st.clock so_far _ (λ x. absurd cc)) (λ run. begun_incomplete Prepare _ [] st.clock _ run);
+      snapshots = λ lane q mark g f. begins_own lane mark (snapshot_begun (volumes_of (in_progress st)) st.clock st.course)
+          (on_begun Snapshot st.course.members _ st.clock [] st.course (λ x. refl)) (λ run. begun_incomplete Snapshot st.course.members _ st.clock st.course run);
       completes = λ lane q mark g. begins_other lane op.Complete mark (completing st.clock st.course) refl refl
           (on_begun Complete _ [] st.clock so_far _ (λ x. absurd cc)) (λ run. begun_incomplete Complete _ [] st.clock _ run);
       aborts = λ lane q mark e. tells_none lane op.Abort mark Fine (failed AsyncCancelled st) refl refl

@@ -7,8 +7,8 @@ use Rattle.promises.proofs.Words.{target_of, Plan, Event, Line, Provider, Idle, 
 use Rattle.promises.proofs.Words.{kept_image, row_of, left_now, is_flush, is_failed_step, Act, enabled, happens, step_reply, after, state, idle_now, is_fault}
 use Rattle.promises.proofs.Words.{is_flush_step, volumes_losing, row_number, kept_point, at, ticks_if, answer_of, AreGone, AnswersSay, after_enabled}
 use Rattle.promises.proofs.Words.{reply_of_mark, count_images, write, delete_set, delete_kept, delete_image, and_right}
-use Rattle.promises.proofs.Clock.{clock_after}
-use Rattle.promises.proofs.Done.{dropped_gone}
+use Rattle.promises.proofs.Moves.{clock_after}
+use Rattle.promises.proofs.ContextZero.{dropped_gone}
 use Rattle.promises.proofs.Accepted.{line_reply}
 
 -- ## writes

@@ -1,18 +1,53 @@
 -- Where the set of a session has failed, the session says so: in every other stage the course's set has not failed.
-use Rattle.std.proofs.Common.{◌≡◌, ◌∙◌, ℕ, ◌+◌, List, [], ◌∷◌, ◌⊎◌, Option, Some, None, refl, Bool, true, false, ap, sym, subst, inl, inr, map, fold, arith}
+use Rattle.std.proofs.Common.{◌≡◌, ◌∙◌, ℕ, ◌+◌, List, [], ◌⊎◌, Option, Some, None, refl, Bool, true, false, ap, sym, subst, inl, inr, map, arith}
 use Rattle.std.specs.Prelude.{option_map}
 use Rattle.promises.proofs.Words.{Context, SetOutcome, VssResult, AsyncCancelled, Said, row_gathered, Mark, Write, Group, Gather, Prepare, Snapshot, Complete}
-use Rattle.promises.proofs.Words.{Agenda, is_working, Session, agenda_ended, set_failed, Plan, State, SetRow, Kept, start, in_progress, left_now, put}
-use Rattle.promises.proofs.Words.{reverted_as, has_failed, IsOrderly, Act, after, state, IsKeptByChanges, IsKeptByWrites, kept_by_changes as orderly_kept}
-use Rattle.promises.proofs.Words.{kept_by_writes as orderly_writes, orderly, on_after, course-step_made, by_if, Failed as FailedSet, Course}
+use Rattle.promises.proofs.Words.{Agenda, is_working, Session, agenda_ended, set_failed, Plan, State, SetRow, Kept, in_progress, left_now, put, by_acts}
+use Rattle.promises.proofs.Words.{reverted_as, has_failed, IsOrderly, Act, state, IsKeptByChanges, IsKeptByWrites, kept_by_changes as orderly_kept}
+use Rattle.promises.proofs.Words.{kept_by_writes as orderly_writes, orderly, on_after, course-step_made, Failed as FailedSet, Course}
 use Rattle.promises.proofs.Words.{answered as course_answered, stepped as course_stepped, timed as course_timed, Started, ending, runs, concluded, followed}
-use Rattle.promises.proofs.Words.{failed_in, failed, begin_in, closed, start_set, step_made, stepped_as, ticked, later, has_no_volume, true_not_false}
+use Rattle.promises.proofs.Words.{failed_in, failed, begin_in, closed, start_set, step_made, stepped_as, ticked, later, true_not_false, Order, Kind, Member}
+use Rattle.promises.proofs.Words.{left, open_order, none_settled as calm_settled, now_if, and_parts, posted, begun, told, answered_to}
 use Rattle.vss_names.specs.declared.set_outcome.SetOutcome.TheVariants.{Running as RunningSet, Complete as CompleteSet}
 use Rattle.requestor.specs.declared.stage.Stage.TheVariants.{Failed}
 use Rattle.vss_model.proofs.StateForm.{answered, stepped}
-use Rattle.promises.proofs.BusyAgendas.{IsBusy}
-use Rattle.promises.proofs.CalmCourses.{CalmOrBusy, calm_begun, calm_answered, calm_stepped, calm_timed}
-use Rattle.promises.proofs.SameChoice.{session_made}
+use Rattle.promises.proofs.CourseRows.{IsBusy, busy_order, busy_step, PassesOrFails, over_timed}
+use Rattle.promises.proofs.Members.{session_made}
+
+-- ## a call of the course fails it only while an agenda runs that makes a set
+
+abbrev pub CalmOrBusy : Course → Course → Type 0
+CalmOrBusy c d = (has_failed c.outcome ≡ false → has_failed d.outcome ≡ false) ⊎ IsBusy c.agenda
+
+calm_posted : (prior c d : Course) → CalmOrBusy c d → CalmOrBusy c (posted prior d)
+unfolding posted
+calm_posted prior c d h = h
+
+pub told_outcome : (o : Order) (said : Said) (now : ℕ) (ws : List ℕ) (c : Course) → (told o said now ws c).outcome ≡ c.outcome
+unfolding told
+told_outcome o said now ws c = refl
+
+calm_answered_to : (x : Option Order) (w : ℕ) (said : Said) (now : ℕ) (c : Course) → open_order (left c.agenda) w ≡ x → CalmOrBusy c (answered_to x w said now c)
+calm_answered_to x w said now c e = grind (arith, busy_order, now_if, and_parts, calm_settled, told_outcome)
+
+pub calm_answered : (w : ℕ) (said : Said) (now : ℕ) (c : Course) → CalmOrBusy c (course_answered w said now c)
+calm_answered w said now c = grind (arith, calm_posted, calm_answered_to)
+
+pub calm_stepped : (ok : Bool) (now : ℕ) (c : Course) → is_working (left c.agenda) ≡ true → CalmOrBusy c (course_stepped ok now c)
+calm_stepped ok now c e = inr (busy_step c.agenda e)
+
+pub calm_timed : (now : ℕ) (c : Course) → CalmOrBusy c (course_timed now c)
+calm_timed now c = by_result (over_timed now c) where
+  by_result : {say : _} → PassesOrFails say c (course_timed now c) → CalmOrBusy c (course_timed now c)
+  by_result (inl h) = inl h.calm
+  by_result (inr h) = inr h.busy
+
+-- an agenda that begins fails nothing
+pub calm_begun : (k : Kind) (ms : List Member) (vs : List ℕ) (now : ℕ) (c : Course) → has_failed c.outcome ≡ false → has_failed (begun k ms vs now c).outcome ≡ false
+unfolding begun posted
+calm_begun k ms vs now c e = calm_settled (record c { agenda = Some (record { kind = k; members = ms; volumes = vs; begun = now; log = [] }) }) e
+
+-- ## where the set of a session has failed, the session says so: in every other stage the course's set has not failed
 
 abbrev pub IsCalm : State → Type 0
 IsCalm x = (q : Session) → x.session ≡ Some q → (q.stage ≡ Failed → ⊥) → has_failed x.course.outcome ≡ false
@@ -124,12 +159,8 @@ calm_kept = record {
   ticks = λ n st h. (orderly_kept.ticks n st h.0, on_ticks st h n);
   fails = λ why st h. (orderly_kept.fails why st h.0, on_failed st h (in_progress st) why);
   gathers = λ s q st g h. (orderly_kept.gathers s q st g h.0, on_begun st h _ (calm_begun Gather _ [] st.clock (record st.course { rows = map row_gathered st.course.rows })));
-  prepares = λ s q st g h. (orderly_kept.prepares s q st g h.0, by_if (λ r. IsCalm r.1) (has_no_volume (in_progress st)) _ _ h.1 (on_begun st h _ (calm_begun Prepare _ [] st.clock _)));
-  snapshots = λ q st g h. (
-    orderly_kept.snapshots q st g h.0,
-    by_if (λ r. IsCalm r.1) (has_no_volume (in_progress st)) _ _ h.1
-        (on_begun st h _ (calm_begun Snapshot st.course.members _ st.clock st.course)),
-  );
+  prepares = λ s q st g f h. (orderly_kept.prepares s q st g f h.0, on_begun st h _ (calm_begun Prepare _ [] st.clock _));
+  snapshots = λ q st g f h. (orderly_kept.snapshots q st g f h.0, on_begun st h _ (calm_begun Snapshot st.course.members _ st.clock st.course));
   completes = λ q st g h. (orderly_kept.completes q st g h.0, on_begun st h _ (calm_begun Complete _ [] st.clock st.course));
   clears = λ s v b st h. (orderly_kept.clears s v b st h.0, h.1);
   deletes_set = λ n st h. (orderly_kept.deletes_set n st h.0, h.1);
@@ -156,9 +187,5 @@ calm_writes st =
       reverts = λ s n v k mark e f h. (own.reverts s n v k mark e f h.0, calm_revert s v k mark st h.1);
     }
 
-calm_fold : (s : Plan) (st : State) (acts : List Act) → IsCalmOrderly st → IsCalmOrderly (fold (after s) st acts)
-calm_fold s st [] h = h
-calm_fold s st (act ∷ acts) h = calm_fold s (after s st act) acts (on_after IsCalmOrderly calm_kept s st act (calm_writes st) h)
-
 pub calm_always : (s : Plan) (acts : List Act) → IsCalmOrderly (state s acts)
-calm_always s acts = calm_fold s (start s) acts (orderly s [], λ q e f. absurd cc)
+calm_always s acts = by_acts IsCalmOrderly s (λ past act h. on_after IsCalmOrderly calm_kept s (state s past) act (calm_writes (state s past)) h) (orderly s [], λ q e f. absurd cc) acts

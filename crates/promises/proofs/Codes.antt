@@ -6,12 +6,12 @@ use Rattle.promises.proofs.Words.{Open, groups_left, open_group, open_order, ord
 use Rattle.promises.proofs.Words.{running_limits, spent_of, held_here, frozen_here, IsSpentHere, spent_here, Session, Op, target_of, Plan, Event, Line, State}
 use Rattle.promises.proofs.Words.{SetRow, in_progress, left_now, followed, runs, failed_in, failed, has_failed, Act, idle_now, state, holds_volumes}
 use Rattle.promises.proofs.Words.{held_too_long, frozen_too_long, outcome_is_running, hold_late, freeze_late, set_failure, Rising, late_code_at, late_code_in}
-use Rattle.promises.proofs.Words.{late_code, IsAnswerCode, IsLineCode, IsCode, FailsByCode, Covers, covered, after_enabled, some_same, by_if}
+use Rattle.promises.proofs.Words.{late_code, IsAnswerCode, IsLineCode, IsCode, FailsByCode, Covers, covered, after_enabled, some_same}
 use Rattle.promises.proofs.Words.{none_settled as calm_settled, false_from_ne_true, AsyncCancelled, UnexpectedProviderError, InsufficientStorage}
-use Rattle.promises.proofs.Words.{HoldWritesTimeout, WriterNotResponding, BadState, Answer as AnswerLimit, Course, posted, settled, told, is_decisive, decided}
+use Rattle.promises.proofs.Words.{HoldWritesTimeout, WriterNotResponding, Answer as AnswerLimit, Course, posted, settled, told, is_decisive, decided}
 use Rattle.promises.proofs.Words.{answered_to, answered as course_answered, stepped as course_stepped, freeze_limit, limits_now, lost, lost_to, fails_set}
-use Rattle.promises.proofs.Words.{lost_decided, treated_as, treated, timed as course_timed, set_loses_image, Replied, refused, cleared, with_room_if, put}
-use Rattle.promises.proofs.Words.{write, reverted_as, start_set, closed, step_made, stepped_as, ticked, later, has_no_volume, is_flush, is_failed_step}
+use Rattle.promises.proofs.Words.{lost_decided, treated_as, treated, timed as course_timed, set_loses_image, Replied, cleared, with_room_if, put}
+use Rattle.promises.proofs.Words.{write, reverted_as, start_set, closed, step_made, stepped_as, ticked, later, is_flush, is_failed_step}
 use Rattle.vss_names.specs.declared.vss_result.VssResult.TheVariants.{Writer as WriterFault}
 use Rattle.writer_state.specs.declared.said.Said.TheVariants as said
 use Rattle.writer_calls.specs.declared.answer.Answer.{Answer}
@@ -21,12 +21,12 @@ use Rattle.set_agenda.specs.declared.limit.Limit.TheVariants.{Hold as HoldLimit,
 use Rattle.set_agenda.specs.Course.{failed as course_failed}
 use Rattle.scenario.specs.declared.op.Op.TheVariants as op
 use Rattle.vss_model.proofs.StateForm.{answered, stepped}
-use Rattle.vss_model.proofs.LogRule.{Running}
-use Rattle.promises.proofs.BusyAgendas.{course_followed}
-use Rattle.promises.proofs.CalmCourses.{calm_begun, told_outcome}
+use Rattle.vss_model.proofs.Rules.{Running}
+use Rattle.promises.proofs.CourseRows.{course_followed}
+use Rattle.promises.proofs.CalmStages.{calm_begun, told_outcome}
 use Rattle.promises.proofs.GoneImages.{none_stepped}
 use Rattle.promises.proofs.Limits.{held_since_first, none_found, held_finds, frozen_finds}
-use Rattle.promises.proofs.SetFailures.{failure_at}
+use Rattle.promises.proofs.Contexts.{failure_at}
 use Rattle.promises.proofs.Times.{times, held_is_first, logs_rise}
 use Rattle.promises.proofs.Turns.{Turn, no_failure, write_turn, revert_turn, begun_turn, answer_turn, tick_turn, step_turn, abort_turn, add_turn, none_started}
 
@@ -73,8 +73,7 @@ module _ (now : ℕ) (c : Course) (a : Agenda) (o : Open) (l : RunningLimit) whe
   by_limit AnswerLimit first e = ap (λ b. code false b) (sym (not_frozen e.1)) ∙ ap (λ b. code b (frozen_too_long now o.place.group c a)) (sym (not_held first e.0))
 
 code_left : (now : ℕ) (c : Course) (a : Agenda) (os : List Open) (l : RunningLimit) → groups_left a ≡ os → spent_of now (running_at (freeze_limit c) a os) ≡ Some l
-    → (a.kind ≡ kind.Snapshot → Rising (times a.log))
-    → code_of_limit l.limit ≡ late_code_at now c a os
+    → (a.kind ≡ kind.Snapshot → Rising (times a.log)) → code_of_limit l.limit ≡ late_code_at now c a os
 code_left now c a [] l same e rising = absurd cc
 code_left now c a (o ∷ os) l same e rising = by_limit now c a o l l.limit (held_is_first now a o os same rising) (spent_here now (freeze_limit c) a o os l e)
 
@@ -232,10 +231,8 @@ module _ (s : Plan) (so_far : List Act) (why : VssResult) where
     names = λ lane w full q explicit mark g named. same_sets (Line lane (op.Component w full)) _ (λ m. refl);
     starts = λ lane q mark g e f. not_none (set_failure (in_progress st) (start_set q st).1) (none_started s so_far q (start_set q st).1 g.stands e) f;
     adds = λ lane v r q mark g e f i. calm_reason st.course.outcome why (was_running _ i) (of_turn _ (runs st) (add_turn s so_far v r) i);
-    prepares = λ lane q mark g. by_if (Next (Line lane op.Prepare) mark) (has_no_volume (in_progress st)) (refused BadState st) _
-        (unchanged (Line lane op.Prepare)) (begun_code (Line lane op.Prepare) _ (calm_begun kind.Prepare _ [] st.clock _));
-    snapshots = λ lane q mark g. by_if (Next (Line lane op.Snapshot) mark) (has_no_volume (in_progress st)) (refused BadState st) _
-        (unchanged (Line lane op.Snapshot)) (begun_code (Line lane op.Snapshot) _ (calm_begun kind.Snapshot st.course.members _ st.clock st.course));
+    prepares = λ lane q mark g f. begun_code (Line lane op.Prepare) _ (calm_begun kind.Prepare _ [] st.clock _);
+    snapshots = λ lane q mark g f. begun_code (Line lane op.Snapshot) _ (calm_begun kind.Snapshot st.course.members _ st.clock st.course);
     completes = λ lane q mark g. begun_code (Line lane op.Complete) _ (calm_begun kind.Complete _ [] st.clock st.course);
     aborts = λ lane q mark e. abort_code;
     ends = λ lane q mark e f. abort_code (sym (closed_failure q (failed AsyncCancelled st)) ∙ f);

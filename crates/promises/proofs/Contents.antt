@@ -1,15 +1,40 @@
--- What changes the contents of a volume.
+-- What changes the contents of a volume, and that each copy holds its block as it was at the cut of its set.
 use Rattle.std.proofs.Common.{◌≡◌, ◌∙◌, ℕ, ◌==◌, zero, suc, List, [], ◌∷◌, ◌++◌, Some, None, refl, Bool, true, false, ◌<◌, ap, sym, subst, length, take, arith}
-use Rattle.std.specs.Prelude.{◌&&◌, if◌then◌else◌}
+use Rattle.std.proofs.Common.{map, ◌+◌, Option}
+use Rattle.std.specs.Prelude.{◌&&◌, if◌then◌else◌, ◌||◌, slice_get, All}
+use Rattle.scenario.specs.declared.op.Op.TheVariants as op
+use Rattle.vss_model.specs.Changes.{Writes}
+use Rattle.promises.proofs.Members.{same_number}
 use Rattle.promises.proofs.Words.{payload_bytes, zeros, Mark, Clean, FaultAfter, Write, History, last_bytes, content, written, to_restore, is_among, line_of}
 use Rattle.promises.proofs.Words.{does, Plan, blocks_of, Event, Line, State, Kept, history_of, kept_image, Act, enabled, happens, after, state, as_many_volumes}
 use Rattle.promises.proofs.Words.{at, as_many_map, as_many_gone, block_now, may_change, ContentsChange, changes_by, after_enabled, all_taken, change_at}
 use Rattle.promises.proofs.Words.{revert_refusal, Replied, with_room_if, write, reverted_as, revert, Change, Reverts, RevertsPart, apply, IsWrite, IsRevert}
-use Rattle.promises.proofs.Words.{Comes, by_changes, rewrites, same_writes}
-use Rattle.scenario.specs.declared.op.Op.TheVariants as op
-use Rattle.promises.proofs.Truth.{same_number}
-use Rattle.promises.proofs.Restored.{some_restored}
-use Rattle.vss_model.specs.Changes.{Writes}
+use Rattle.promises.proofs.Words.{Comes, by_changes, rewrites, same_writes, take-length, restoring, number_is, All-nil, All-cons, All-append, Image, point_in}
+use Rattle.promises.proofs.Words.{AreLater, AreInTime, Placed, Copy, copy_of, named, copies_of, copies_from, cut, IsShownAt, image_shown, image_reads}
+use Rattle.promises.proofs.Words.{images_in_time, place_from, HoldsTheCut, CopiesHold, within}
+
+-- ## What changes the contents of a volume.
+
+-- ## what stands in a block after some blocks were brought back
+
+last_append : (b : ℕ) (before : List ℕ) (ws us : List Write) → last_bytes b before (ws ++ us) ≡ last_bytes b (last_bytes b before ws) us
+last_append b before [] us = refl
+last_append b before (w ∷ ws) us = last_append b (if w.block == b then w.bytes else before) ws us
+
+last_restored : (ws : List Write) (point b : ℕ) (bs : List ℕ) (before : List ℕ) → last_bytes b before (map (restoring ws point) bs) ≡ (if is_among b bs then content ws point b else before)
+last_restored ws point b [] before = refl
+last_restored ws point b (c ∷ bs) before = last_restored ws point b bs (if c == b then content ws point c else before) ∙ by_block (c == b) (is_among b bs) refl
+  where
+    by_block : (d among : Bool) → (c == b) ≡ d → (if among then content ws point b else (if d then content ws point c else before)) ≡ (if d || among then content ws point b else before)
+    by_block true true e = refl
+    by_block true false e = ap (content ws point) (number_is c b e)
+    by_block false true e = refl
+    by_block false false e = refl
+
+-- these blocks are written once more as they were at a point, and the others stay
+pub some_restored : (ws : List Write) (point b : ℕ) (bs : List ℕ) → content (ws ++ map (restoring ws point) bs) (length (ws ++ map (restoring ws point) bs)) b
+    ≡ (if is_among b bs then content ws point b else content ws (length ws) b)
+some_restored ws point b bs = grind (arith, take-length, last_append, last_restored)
 
 -- ## one block
 
@@ -124,3 +149,98 @@ contents_change s so_far act =
           (after_line s st act (Line lane (op.Revert n v)) e (ap (enabled s st) e) ∙ ap (λ (y : Replied). y.1) (revert_is s st n v k act.mark h i))
           ∙ stop_brings s st v b j k act.mark m (many v l);
     }
+
+-- ## Each copy holds its block as it was at the cut of its set.
+
+-- ## the copies of a volume
+
+-- the copy is of one of these images, and holds its block as it was at the image's point
+record IsOfImage (u : ℕ) (ws : List Write) (images : List Image) (c : Copy) : Type 0 where
+  volume : u ≡ c.volume
+  point : ℕ
+  is : point_in c.set images ≡ Some point
+  holds : c.bytes ≡ content ws point c.block
+
+first_point : (b : Bool) (p : ℕ) (o : Option ℕ) → b ≡ true → (if b then Some p else o) ≡ Some p
+first_point b p o e = grind arith
+
+later_point : (b : Bool) (p : ℕ) (o : Option ℕ) → b ≡ false → (if b then Some p else o) ≡ o
+later_point b p o e = grind arith
+
+-- a later image is of a later set
+pub later_set : (i : Image) (m p : ℕ) (images : List Image) → AreLater i images → point_in m images ≡ Some p → (i.set == m) ≡ false
+later_set i m p [] h e = absurd cc
+later_set i m p (j ∷ images) h e = by_head (j.set == m) refl e (later_set i m p images h.2) where
+  differs : (a b m : ℕ) → a < b → (b == m) ≡ true → (a == m) ≡ false
+  differs a b m l e = grind arith
+
+  by_head : (b : Bool) → (j.set == m) ≡ b → (if b then Some j.point else point_in m images) ≡ Some p → (point_in m images ≡ Some p → (i.set == m) ≡ false) → (i.set == m) ≡ false
+  by_head true f e ih = differs i.set j.set m h.0 f
+  by_head false f e ih = ih e
+
+own_copies : (u : ℕ) (ws : List Write) (i : Image) (newer : List Image) (bs : List ℕ) → All (IsOfImage u ws (i ∷ newer)) (map (copy_of u ws i) bs)
+own_copies u ws i newer [] = All-nil (IsOfImage u ws (i ∷ newer))
+own_copies u ws i newer (b ∷ bs) =
+    All-cons (IsOfImage u ws (i ∷ newer)) (copy_of u ws i b) (map (copy_of u ws i) bs)
+    (record { volume = refl; point = i.point; is = first_point (i.set == i.set) i.point (point_in i.set newer) (same_number i.set); holds = refl })
+    (own_copies u ws i newer bs)
+
+all_along : (P Q : Copy → Type 0) (cs : List Copy) → ((c : Copy) → P c → Q c) → All P cs → All Q cs
+all_along P Q cs f h k d l = f _ (h k d l)
+
+copies_in : (u n most : ℕ) (ws : List Write) (images : List Image) → AreInTime most images → All (IsOfImage u ws images) (copies_of u n ws images)
+copies_in u n most ws [] t = All-nil (IsOfImage u ws [])
+copies_in u n most ws (i ∷ newer) t =
+    All-append (IsOfImage u ws (i ∷ newer)) (map (copy_of u ws i) (named n ws i newer)) (copies_of u n ws newer) (own_copies u ws i newer (named n ws i newer))
+    (all_along (IsOfImage u ws newer) (IsOfImage u ws (i ∷ newer)) (copies_of u n ws newer)
+    (λ c h. record {
+      volume = h.volume;
+      point = h.point;
+      is = later_point (i.set == c.set) i.point (point_in c.set newer) (later_set i c.set h.point newer t.1 h.is) ∙ h.is;
+      holds = h.holds;
+    }) (copies_in u n most ws newer t.2))
+
+-- ## the copies of a group
+
+record IsInGroup (u : ℕ) (ps : List Placed) (hs : List History) (c : Copy) : Type 0 where
+  volume : ℕ
+  place : place_from u ps volume ≡ c.volume
+  of_group : within (slice_get ps volume) ≡ true
+  own : ℕ
+  image : IsOfImage own (at hs volume).writes (at hs volume).images c
+
+abbrev pub InTimeAll : List History → Type 0
+InTimeAll hs = (v : ℕ) → AreInTime (length (at hs v).writes) (at hs v).images
+
+one_later : (u : ℕ) (p : Placed) (ps : List Placed) (h : History) (hs : List History) (c : Copy) → IsInGroup (if p.within then u + 1 else u) ps hs c → IsInGroup u (p ∷ ps) (h ∷ hs) c
+one_later u p ps h hs c i = record { volume = suc i.volume; place = i.place; of_group = i.of_group; own = i.own; image = i.image }
+
+in_group : (u : ℕ) (ps : List Placed) (hs : List History) → InTimeAll hs → All (IsInGroup u ps hs) (copies_from u ps hs)
+in_group u [] hs t = All-nil (IsInGroup u [] hs)
+in_group u (p ∷ ps) [] t = All-nil (IsInGroup u (p ∷ ps) [])
+in_group u (p ∷ ps) (h ∷ hs) t = by_group p.within refl (λ k. in_group k ps hs (λ v. t (suc v))) where
+  by_group : (b : Bool) → p.within ≡ b → ((k : ℕ) → All (IsInGroup k ps hs) (copies_from k ps hs))
+      → All (IsInGroup u (p ∷ ps) (h ∷ hs)) (if b then copies_of u p.blocks h.writes h.images ++ copies_from (u + 1) ps hs else copies_from u ps hs)
+  by_group true e rest =
+      All-append (IsInGroup u (p ∷ ps) (h ∷ hs)) (copies_of u p.blocks h.writes h.images) (copies_from (u + 1) ps hs)
+      (all_along (IsOfImage u h.writes h.images) (IsInGroup u (p ∷ ps) (h ∷ hs)) (copies_of u p.blocks h.writes h.images)
+      (λ c i. record { volume = 0; place = i.volume; of_group = e; own = u; image = i }) (copies_in u p.blocks (length h.writes) h.writes h.images (t 0)))
+      (all_along (IsInGroup (u + 1) ps hs) (IsInGroup u (p ∷ ps) (h ∷ hs)) (copies_from (u + 1) ps hs)
+      (λ c i. one_later u p ps h hs c (subst (λ b. IsInGroup (if b then u + 1 else u) ps hs c) (sym e) i)) (rest (u + 1)))
+  by_group false e rest = all_along (IsInGroup u ps hs) (IsInGroup u (p ∷ ps) (h ∷ hs)) (copies_from u ps hs)
+      (λ c i. one_later u p ps h hs c (subst (λ b. IsInGroup (if b then u + 1 else u) ps hs c) (sym e) i)) (rest u)
+
+-- ## the cut
+
+record HasCut (s : Plan) (n : ℕ) (so_far : List Act) : Type 0 where
+  before : List Act
+  is : cut s n so_far ≡ Some before
+
+was_cut : (s : Plan) (so_far : List Act) (n v p : ℕ) (ws : List Write) (o : Option (List Act)) → cut s n so_far ≡ o → IsShownAt s v p ws o → HasCut s n so_far
+was_cut s so_far n v p ws o e h = grind arith
+
+shows_cut : (s : Plan) (so_far : List Act) (ps : List Placed) (c : Copy) → IsInGroup 0 ps (state s so_far).volumes c → HoldsTheCut s so_far ps c
+shows_cut s so_far ps c i = grind (arith, was_cut, image_shown, image_reads)
+
+pub copies_hold : (s : Plan) (so_far : List Act) → CopiesHold s so_far
+copies_hold s so_far v = grind (arith, all_along, shows_cut, in_group, images_in_time)

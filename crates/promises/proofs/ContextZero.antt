@@ -1,21 +1,117 @@
--- An image of context 0 stands only while its session does.
-use Rattle.std.proofs.Common.{◌≡◌, ◌∙◌, ℕ, ◌+◌, ◌==◌, List, [], ◌∷◌, ◌++◌, Option, Some, None, refl, Bool, true, false, ap, sym, subst, fold, arith}
-use Rattle.std.specs.Prelude.{◌&&◌, option_map, if◌then◌else◌}
-use Rattle.promises.proofs.Words.{Context, Backup, VssResult, AsyncCancelled, Said, Mark, Clean, Write, dropped, said_of, open_group, Group, Stage, Session}
-use Rattle.promises.proofs.Words.{has_writers, opened, started, is_stage, Plan, Event, Line, State, SetRow, Kept, start, in_progress, row_changed, left_now}
-use Rattle.promises.proofs.Words.{has_image, followed, runs, failed, NumberedFrom, IsOfSession as IsSessionOfSet, is_early, LetsGo, is_provider, Act, enabled}
-use Rattle.promises.proofs.Words.{idle_now, after, state, state-append, after_commit, is_commit, next_volume, fewer_after, fewer_followed, true_not_false}
-use Rattle.promises.proofs.Words.{orderly, at, stands, BackupsEnd, Covers, covered, after_enabled, after_not_enabled, some_same, by_if, and_parts}
-use Rattle.promises.proofs.Words.{answered as course_answered, stepped as course_stepped, timed as course_timed, Opened, Gathered, is_backup, Replied, write}
-use Rattle.promises.proofs.Words.{reverted_as, start_set, images_released, closed, image_made, step_made, stepped_as, ticked, later, new_set, new_number}
-use Rattle.promises.proofs.Words.{with_volume, has_no_volume, number_is}
+-- What was asked for is done, and an image of context 0 stands only while its session does.
+use Rattle.std.proofs.Common.{◌≡◌, ◌∙◌, ℕ, ◌+◌, ◌==◌, ◌<◌, zero, suc, List, [], ◌∷◌, Option, Some, None, refl, Bool, true, false, ap, sym, subst, map, arith}
+use Rattle.std.proofs.Common.{◌++◌}
+use Rattle.std.specs.Prelude.{◌&&◌, not, nat_lt, is_some, if◌then◌else◌, option_map}
 use Rattle.requestor.specs.declared.session_call.SessionCall.TheVariants as call
 use Rattle.scenario.specs.declared.op.Op.TheVariants as op
 use Rattle.vss_model.proofs.StateForm.{answered, stepped}
-use Rattle.promises.proofs.Done.{kept_map, dropped_gone}
 use Rattle.promises.proofs.Contexts.{context_in, context_map, changed_number, changed_context, context_other, context_new, HasMade, Owned, NoMore, Relates}
 use Rattle.promises.proofs.Contexts.{relates_same, relates_over, relates_followed, relates_failed, relates_room, relates_put, owned_by, cut_contexts}
 use Rattle.promises.proofs.Contexts.{owned_made}
+use Rattle.promises.proofs.GoneImages.{kept_by}
+use Rattle.promises.proofs.Members.{not_itself, same_number}
+use Rattle.promises.proofs.Words.{lt-ltb, Mark, Clean, Fault, FaultAfter, Image, History, point_in, dropped, up_to_set, reverted, reverted_in_part, change_at}
+use Rattle.promises.proofs.Words.{DeleteSet, DeleteImage, Revert, Plan, blocks_of, Event, Line, State, Kept, has_image, is_kept_set, row_of, history_of}
+use Rattle.promises.proofs.Words.{kept_image, Act, enabled, happens, after, state, row_number, kept_point, at, reverts, IsDone, stands, after_enabled}
+use Rattle.promises.proofs.Words.{some_same, false_from_ne_true, count_images, revert_refusal, Replied, delete_set, delete_kept, delete_image, reverted_as}
+use Rattle.promises.proofs.Words.{revert, Context, Backup, VssResult, AsyncCancelled, Said, Write, said_of, open_group, Group, Stage, Session, has_writers}
+use Rattle.promises.proofs.Words.{opened, started, is_stage, SetRow, start, in_progress, row_changed, left_now, followed, runs, failed, NumberedFrom}
+use Rattle.promises.proofs.Words.{IsOfSession as IsSessionOfSet, is_early, LetsGo, is_provider, idle_now, after_commit, is_commit, next_volume, fewer_after}
+use Rattle.promises.proofs.Words.{fewer_followed, true_not_false, orderly, BackupsEnd, Covers, covered, after_not_enabled, and_parts, by_acts}
+use Rattle.promises.proofs.Words.{answered as course_answered, stepped as course_stepped, timed as course_timed, Opened, Gathered, is_backup, write, start_set}
+use Rattle.promises.proofs.Words.{images_released, closed, image_made, step_made, stepped_as, ticked, later, new_set, new_number, with_volume, number_is}
+
+-- ## What was asked for is done.
+
+-- ## on which volume
+
+no_image : (n v : ℕ) → has_image n (at [] v) ≡ true → ⊥
+no_image n v e = grind arith
+
+pub kept_map : (f : History → History) (n : ℕ) (hs : List History) (v : ℕ) → has_image n (at (map f hs) v) ≡ true → has_image n (f (at hs v)) ≡ true
+kept_map f n [] v e = absurd (no_image n v e)
+kept_map f n (h ∷ hs) zero e = e
+kept_map f n (h ∷ hs) (suc v) e = kept_map f n hs v e
+
+kept_change : (f : History → History) (n : ℕ) (hs : List History) (v : ℕ) → has_image n (at (change_at v f hs) v) ≡ true → has_image n (f (at hs v)) ≡ true
+kept_change f n [] v e = absurd (no_image n v e)
+kept_change f n (h ∷ hs) zero e = e
+kept_change f n (h ∷ hs) (suc v) e = kept_change f n hs v e
+
+itself : (n : ℕ) → not (n == n) ≡ true → ⊥
+itself n e = not_itself (n == n) (same_number n) e
+
+pub dropped_gone : (n : ℕ) (h : History) → has_image n (dropped n h) ≡ true → ⊥
+dropped_gone n h e = itself n (kept_by (λ k. not (k == n)) n h.images e)
+
+newer_gone : (n m : ℕ) (images : List Image) → n < m → is_some (point_in m (up_to_set n images)) ≡ true → ⊥
+newer_gone n m images l e = not_itself (nat_lt n m) (lt-ltb n m l) (kept_by (λ k. not (nat_lt n k)) m images e)
+
+-- where no image is counted, none stands
+none_counted : (n : ℕ) (hs : List History) (v : ℕ) → nat_lt 0 (count_images n hs) ≡ false → has_image n (at hs v) ≡ true → ⊥
+none_counted n [] v e f = no_image n v f
+none_counted n (h ∷ hs) zero e f = counted (has_image n h) (count_images n hs) f e where
+  counted : (b : Bool) (k : ℕ) → b ≡ true → nat_lt 0 ((if b then 1 else 0) + k) ≡ false → ⊥
+  counted true k e f = grind arith
+  counted false k e f = cc
+none_counted n (h ∷ hs) (suc v) e f = none_counted n hs v (fewer (has_image n h) (count_images n hs) e) f where
+  fewer : (b : Bool) (k : ℕ) → nat_lt 0 ((if b then 1 else 0) + k) ≡ false → nat_lt 0 k ≡ false
+  fewer true k e = grind arith
+  fewer false k e = grind arith
+
+-- ## the lines
+
+module _ (s : Plan) (st : State) where
+  deletes_by : (b : Bool) (n v : ℕ) (x y : Replied) → (b ≡ true → stands x.1 n v ≡ true → ⊥) → (b ≡ false → stands y.1 n v ≡ true → ⊥) → stands (if b then x else y).1 n v ≡ true → ⊥
+  deletes_by b n v x y f g e = grind arith
+
+  second_false : (a b : Bool) → a ≡ true → (a && b) ≡ false → b ≡ false
+  second_false a b e f = grind arith
+
+  set_gone : (n v : ℕ) → is_kept_set st n ≡ true → stands (delete_set n st).1 n v ≡ true → ⊥
+  unfolding delete_set
+  set_gone n v k e =
+      deletes_by (is_kept_set st n && nat_lt 0 (count_images n st.volumes)) n v _ _
+      (λ f g. dropped_gone n (at st.volumes v) (kept_map (dropped n) n st.volumes v g))
+      (λ f g. none_counted n st.volumes v (second_false (is_kept_set st n) (nat_lt 0 (count_images n st.volumes)) k f) g) e
+
+  row_is : (n v : ℕ) (k : Kept) → kept_image st n v ≡ Some k → k.row.number ≡ n
+  row_is n v k e = (kept_point n (row_of st n) (point_in n (history_of st v).images) k (λ r f. row_number n st.sets r f) e).0
+
+  image_gone : (n v : ℕ) (k : Kept) → kept_image st n v ≡ Some k → stands (delete_image n v st).1 n v ≡ true → ⊥
+  unfolding delete_image
+  image_gone n v k e f = by_kept (kept_image st n v) e f where
+    by_kept : (o : Option Kept) → o ≡ Some k → stands (delete_kept v o st).1 n v ≡ true → ⊥
+    by_kept None g h = absurd cc
+    by_kept (Some x) g h =
+        let same : x.row.number ≡ n = ap (λ (y : Kept). y.row.number) (some_same x k g) ∙ row_is n v k e in
+        dropped_gone n (at st.volumes v) (subst (λ m. has_image n (dropped m (at st.volumes v)) ≡ true) same (kept_change (dropped x.row.number) n st.volumes v h))
+
+  reverted_gone : (n v m : ℕ) (k : Kept) (mark : Mark) → k.row.number ≡ n → reverts mark ≡ true → n < m → stands (reverted_as s v k mark st).1 m v ≡ true → ⊥
+  reverted_gone n v m k Clean e r l f = newer_gone k.row.number m (at st.volumes v).images (subst (λ x. x < m) (sym e) l) (kept_change (reverted k.row.number k.point) m st.volumes v f)
+  reverted_gone n v m k Fault e r l f = absurd cc
+  reverted_gone n v m k (FaultAfter j) e r l f =
+      newer_gone k.row.number m (at st.volumes v).images (subst (λ x. x < m) (sym e) l) (kept_change (reverted_in_part (blocks_of s v) k.row.number k.point j) m st.volumes v f)
+
+  revert_is : (n v : ℕ) (k : Kept) (mark : Mark) → kept_image st n v ≡ Some k → revert_refusal v (Some k) st ≡ None → revert s n v mark st ≡ reverted_as s v k mark st
+  unfolding revert
+  revert_is n v k mark e f = grind arith
+
+  after_line : (act : Act) (event : Event) → act.event ≡ event → enabled s st event ≡ true → after s st act ≡ (happens s event act.mark st).1
+  after_line act event e on = after_enabled s st act (ap (enabled s st) e ∙ on) ∙ ap (λ x. (happens s x act.mark st).1) e
+
+pub is_done : (s : Plan) (so_far : List Act) (act : Act) → IsDone s so_far act
+is_done s so_far act =
+    let st = state s so_far in
+    record {
+      set = λ lane n v e k. false_from_ne_true _ (λ f. set_gone s st n v k (ap (λ (x : State). stands x n v) (sym (after_line s st act (Line lane (DeleteSet n)) e refl)) ∙ f));
+      image = λ lane n v k e h. false_from_ne_true _ (λ f. image_gone s st n v k h (ap (λ (x : State). stands x n v) (sym (after_line s st act (Line lane (DeleteImage n v)) e refl)) ∙ f));
+      newer = λ lane n v m k e h i r l. false_from_ne_true _
+          (λ f. reverted_gone s st n v m k act.mark (row_is s st n v k h) r l
+          (ap (λ (x : State). stands x m v) (sym (after_line s st act (Line lane (Revert n v)) e refl ∙ ap (λ (x : Replied). x.1) (revert_is s st n v k act.mark h i))) ∙ f));
+    }
+
+-- ## An image of context 0 stands only while its session does.
 
 -- ## a new set
 
@@ -147,8 +243,8 @@ module _ (s : Plan) (st : State) (num : NumberedFrom 1 st.sets) (h : Owned st) w
         (relates_same st.sets _
         (context_map (row_changed r.number (with_volume v)) (λ x. changed_number r.number (with_volume v) x refl)
         (λ x. changed_context r.number (with_volume v) x refl) st.sets));
-    prepares = λ lane q mark g. by_if (Next (Line lane op.Prepare) mark) (has_no_volume (in_progress st)) _ _ (λ img. h) (by _ (relates_followed true _ st));
-    snapshots = λ lane q mark g. by_if (Next (Line lane op.Snapshot) mark) (has_no_volume (in_progress st)) _ _ (λ img. h) (by _ (relates_followed true _ st));
+    prepares = λ lane q mark g f. by _ (relates_followed true _ st);
+    snapshots = λ lane q mark g f. by _ (relates_followed true _ st);
     completes = λ lane q mark g. by _ (relates_followed true _ st);
     aborts = λ lane q mark e. by _ (relates_failed (in_progress st) AsyncCancelled st);
     ends = λ lane q mark e. on_end q AsyncCancelled e;
@@ -169,20 +265,14 @@ module _ (s : Plan) (st : State) (num : NumberedFrom 1 st.sets) (h : Owned st) w
       (owned_by x _ (relates_followed (runs st) (course_stepped true st.clock st.course) x)
       (λ n v g. ((fewer_followed (runs st) (course_stepped true st.clock st.course) x).each v).sets n g) (owned_made (in_progress st) (next_volume (left_now st)) st refl k h))
 
-owned_from : (s : Plan) (so_far acts : List Act) → Owned (state s so_far) → Owned (fold (after s) (state s so_far) acts)
-owned_from s so_far [] h = h
-owned_from s so_far (act ∷ acts) h =
-    let i = orderly s so_far in
-    let next : Owned (state s (so_far ++ act ∷ [])) = subst Owned (sym (state-append s so_far act)) (owned_after s (state s so_far) i.numbered h _ act refl i.session) in
-    subst (λ (x : State). Owned (fold (after s) x acts)) (state-append s so_far act) (owned_from s (so_far ++ act ∷ []) acts next)
-
 start_owned : (s : Plan) → Owned (start s)
 start_owned s = record { own = λ n v c g. absurd cc; same = λ q n e f. absurd cc; early = λ q e f. absurd cc }
 
 pub backups_end : (s : Plan) (so_far : List Act) → BackupsEnd s so_far
 backups_end s so_far n v r e b g =
     let st = state s so_far in
-    let h : Owned st = owned_from s [] so_far (start_owned s) in
+    let h : Owned st = by_acts Owned s
+    (λ past act g. owned_after s (state s past) (orderly s past).numbered g _ act refl (orderly s past).session) (start_owned s) so_far in
     let con : context_in st.sets n ≡ Some Backup = ap (option_map (λ (x : SetRow). x.context)) e ∙ ap Some (backup r.context b) in
     let made = h.own n v con g in
     record { session = made.session; is = made.is; context = ap is_backup (some_context Backup made.session.context (sym con ∙ h.same made.session n made.is made.set)); set = made.set }

@@ -1,13 +1,15 @@
--- What keeps the context of a set, and whose session it is.
+-- What keeps the context of a set, whose session it is, and whether it has failed.
 use Rattle.std.proofs.Common.{◌≡◌, ◌∙◌, ℕ, ◌+◌, ◌==◌, suc, List, [], ◌∷◌, ◌++◌, Option, Some, None, refl, Bool, true, false, ap, sym, subst, map, find, length}
 use Rattle.std.proofs.Common.{arith}
 use Rattle.std.specs.Prelude.{is_some, option_map, if◌then◌else◌}
+use Rattle.write_history.specs.History.{cut as history_cut}
+use Rattle.promises.proofs.Members.{same_number}
 use Rattle.promises.proofs.Words.{Context, Backup, SetOutcome, VssResult, Mark, Write, Image, History, point_in, Course, Stage, Session, stage_after}
 use Rattle.promises.proofs.Words.{agenda_ended, set_failed, State, SetRow, in_progress, row_changed, has_image, with_room_if, put, cut_set, image_made}
 use Rattle.promises.proofs.Words.{each_change, NumberedFrom, IsOfSession as IsSessionOfSet, is_early, stands, Ending, ending, row_settled, concluded, followed}
-use Rattle.promises.proofs.Words.{failed_in, number_is}
-use Rattle.write_history.specs.History.{cut as history_cut}
-use Rattle.promises.proofs.Truth.{same_number}
+use Rattle.promises.proofs.Words.{failed_in, number_is, Group, is_running, step_made, failure_of, failure_in}
+
+-- ## What keeps the context of a set, and whose session it is.
 
 -- ## the context of a set
 
@@ -173,3 +175,34 @@ owned_made (Some r) (Some u) st e k h = record { own = λ n v c g. by_number n v
   by_number n v false i c g =
       h.own n v c (each_change (λ x y. has_image n y ≡ true → has_image n x ≡ true) (λ x j. j) (history_cut r.number) (λ x j. made_images r.number n x i j) u st.volumes v g)
 owned_made _ _ st e k h = h
+
+-- ## Whether the rows say of a set that it has failed, and what keeps that.
+
+abbrev pub failure_at : List SetRow → ℕ → Option VssResult
+failure_at rows n = failure_in (find (λ (r : SetRow). r.number == n) rows)
+
+pub failure_map : (f : SetRow → SetRow) → ((r : SetRow) → (f r).number ≡ r.number) → ((r : SetRow) → failure_of (f r).result ≡ failure_of r.result)
+    → (rows : List SetRow) (n : ℕ) → failure_at (map f rows) n ≡ failure_at rows n
+failure_map f num res [] n = refl
+failure_map f num res (r ∷ rows) n = by_head (r.number == n) ((f r).number == n) (ap (λ k. k == n) (num r)) (failure_map f num res rows n) where
+  by_head : (b c : Bool) → c ≡ b → failure_at (map f rows) n ≡ failure_at rows n
+      → failure_in (if c then Some (f r) else find (λ (x : SetRow). x.number == n) (map f rows)) ≡ failure_in (if b then Some r else find (λ (x : SetRow). x.number == n) rows)
+  by_head true true e ih = res r
+  by_head true false e ih = absurd cc
+  by_head false true e ih = absurd cc
+  by_head false false e ih = ih
+
+pub running_calm : (o : SetOutcome) → is_running o ≡ true → failure_of o ≡ None
+running_calm o e = grind arith
+
+pub settled_calm : (p : SetOutcome) → failure_of p ≡ None → (r : SetRow) → failure_of (row_settled p r).result ≡ failure_of r.result
+settled_calm p e r = grind arith
+
+pub changed_result : (n : ℕ) (f : SetRow → SetRow) (r : SetRow) → (f r).result ≡ r.result → failure_of (row_changed n f r).result ≡ failure_of r.result
+changed_result n f r e = grind arith
+
+pub failures_cut : (o : Option SetRow) (st : State) (n : ℕ) → failure_at (cut_set o st).sets n ≡ failure_at st.sets n
+failures_cut o st n = grind (arith, failure_map, changed_number, changed_result)
+
+pub failures_made : (g : Option Group) (v : Option ℕ) (st : State) (n : ℕ) → failure_at (step_made g v st).sets n ≡ failure_at st.sets n
+failures_made g v st n = grind (arith, failures_cut)

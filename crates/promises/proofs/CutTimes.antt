@@ -1,14 +1,22 @@
--- The row of a set that was cut has the clock at its cut: only the Cut step writes it, and it comes once.
+-- A set is cut in the act of its Cut step, its row has the clock at its cut, and `properties` tells it.
 use Rattle.std.proofs.Common.{◌≡◌, ◌∙◌, ℕ, ◌==◌, List, [], ◌∷◌, ◌++◌, Option, Some, None, refl, Bool, true, false, ap, sym, subst, map, find, arith}
-use Rattle.std.specs.Prelude.{◌&&◌, option_map, if◌then◌else◌}
-use Rattle.promises.proofs.Words.{number_is, true_not_false, SetOutcome, Mark, open_group, Plan, Event, State, SetRow, in_progress, row_changed, left_now, Act}
-use Rattle.promises.proofs.Words.{after, state, state-append, cuts, or_cut, cut-append, append_nothing, both, after_cut, not_cut_yet, orderly, row_running}
-use Rattle.promises.proofs.Words.{Course, stepped as course_stepped, Ending, ending, row_settled, runs, concluded, followed, cut_set, with_volume, with_cut}
-use Rattle.promises.proofs.Words.{row_cut, is_provider, is_cut_group, is_set, is_cut_of, cut, Change, StartsSet, AddsVolume, IsCutAt, apply, IsCut, Comes}
-use Rattle.promises.proofs.Words.{by_changes}
+use Rattle.std.specs.Prelude.{◌&&◌, option_map, if◌then◌else◌, drop, filter, is_some, unwrap_or, length}
+use Rattle.scenario.specs.declared.op.Op.TheVariants as op
+use Rattle.vss_model.specs.Changes.{Settles}
 use Rattle.vss_model.specs.Cut.{cut_if}
 use Rattle.promises.proofs.Contexts.{settled_number, changed_number}
-use Rattle.vss_model.specs.Changes.{Settles}
+use Rattle.promises.proofs.KeptCopies.{earlier, overwritten_along, since_cut}
+use Rattle.promises.proofs.Replies.{point_of, at_the_cut}
+use Rattle.promises.proofs.Words.{number_is, true_not_false, SetOutcome, Mark, open_group, Plan, Event, State, SetRow, in_progress, row_changed, left_now, Act}
+use Rattle.promises.proofs.Words.{after, state, state-append, cuts, or_cut, cut-append, both, after_cut, not_cut_yet, orderly, row_running, Course}
+use Rattle.promises.proofs.Words.{stepped as course_stepped, Ending, ending, row_settled, runs, concluded, followed, cut_set, with_volume, with_cut, row_cut}
+use Rattle.promises.proofs.Words.{is_provider, is_cut_group, is_set, is_cut_of, cut, Change, StartsSet, AddsVolume, IsCutAt, apply, IsCut, Comes, by_changes}
+use Rattle.promises.proofs.Words.{by_last, Group, next_volume, Provider, step_reply, reply, event_reply, CutsAtTheStep, is_cut_reply, is_number, range_with_len}
+use Rattle.promises.proofs.Words.{AreInTime, images_in_time, is_overwritten, Write, Image, point_in, named, names, used_by, writes_since, blocks_of, Line}
+use Rattle.promises.proofs.Words.{PropertiesOf, Kept, kept_of, kept_image, row_of, history_of, properties, row_number, TellsTheImage, PropertiesTell, some_same}
+use Rattle.promises.proofs.Words.{overwritten}
+
+-- ## The row of a set that was cut has the clock at its cut: only the Cut step writes it, and it comes once.
 
 -- ## the time of a set
 
@@ -58,8 +66,7 @@ time_cut_own : (n now : ℕ) (rows : List SetRow) (q : SetRow) → find (λ (r :
 time_cut_own n now [] q e = absurd cc
 time_cut_own n now (r ∷ rows) q e = by_head (r.number == n) refl e (time_cut_own n now rows q) where
   by_head : (b : Bool) → (r.number == n) ≡ b → (if b then Some r else find (λ (x : SetRow). x.number == n) rows) ≡ Some q
-      → (find (λ (x : SetRow). x.number == n) rows ≡ Some q → time_in (map (row_cut n now) rows) n ≡ Some (Some now))
-      → option_map (λ (x : SetRow). x.cut_at)
+      → (find (λ (x : SetRow). x.number == n) rows ≡ Some q → time_in (map (row_cut n now) rows) n ≡ Some (Some now)) → option_map (λ (x : SetRow). x.cut_at)
       (if (if b then with_cut now r else r).number == n then Some (if b then with_cut now r else r)
       else find (λ (x : SetRow). x.number == n) (map (row_cut n now) rows)) ≡ Some (Some now)
   by_head true f e ih = ap (λ c. option_map (λ (x : SetRow). x.cut_at) (if c then Some (with_cut now r) else find (λ (x : SetRow). x.number == n) (map (row_cut n now) rows))) f
@@ -137,13 +144,106 @@ Timed s so_far = (n : ℕ) (before : List Act) → cut s n so_far ≡ Some befor
 timed_next : (s : Plan) (so_far : List Act) (act : Act) → Timed s so_far → Timed s (so_far ++ act ∷ [])
 timed_next s so_far act h n before e = grind (arith, state-append, time_next, cut-append)
 
-timed_from : (s : Plan) (so_far acts : List Act) → Timed s so_far → Timed s (so_far ++ acts)
-timed_from s so_far [] h = subst (Timed s) (sym (append_nothing so_far)) h
-timed_from s so_far (act ∷ acts) h = subst (Timed s) (regrouped so_far acts) (timed_from s (so_far ++ act ∷ []) acts (timed_next s so_far act h)) where
-  regrouped : (xs ys : List Act) → (xs ++ act ∷ []) ++ ys ≡ xs ++ act ∷ ys
-  regrouped [] ys = refl
-  regrouped (x ∷ xs) ys = ap (λ zs. x ∷ zs) (regrouped xs ys)
-
 -- the row of a set that was cut
 pub cut_time : (s : Plan) (so_far : List Act) (n : ℕ) (before : List Act) → cut s n so_far ≡ Some before → time_in (state s so_far).sets n ≡ Some (Some (state s before).clock)
-cut_time s so_far n before e = timed_from s [] so_far (λ m b f. absurd cc) n before e
+cut_time s so_far n before e = by_last (Timed s) (timed_next s) (λ m b f. absurd cc) so_far n before e
+
+-- ## A set is cut in the act of its Cut step.
+
+same_group : (g : Option Group) (v : Option ℕ) (mark : Mark) → is_cut_reply (step_reply g v mark) ≡ is_cut_group g
+same_group g v mark = grind arith
+
+same_set : (n : ℕ) (o : Option SetRow) → is_number n o ≡ is_set n o
+same_set n o = grind arith
+
+module _ (s : Plan) (so_far : List Act) (act : Act) (n : ℕ) where
+  abbrev st_at_cut : State
+  st_at_cut = state s so_far
+
+  not_cut : is_provider act.event ≡ false → cut s n (so_far ++ act ∷ []) ≡ cut s n so_far
+  not_cut e = grind (arith, cut-append)
+
+  stepped : act.event ≡ Provider → cut s n (so_far ++ act ∷ []) ≡ (if is_cut_reply (reply s st_at_cut act) && is_number n (in_progress st_at_cut) then Some so_far else cut s n so_far)
+  stepped e =
+      cut-append s n so_far act
+      ∙ ap (λ (x : Event). or_cut (cut s n so_far) (cut_if (is_provider x && is_cut_group (open_group (left_now st_at_cut)) && is_set n (in_progress st_at_cut)) so_far None)) e
+      ∙ by_step (is_cut_group (open_group (left_now st_at_cut))) (is_set n (in_progress st_at_cut)) (cut s n so_far) refl refl refl
+      ∙ ap (λ b. if b && is_set n (in_progress st_at_cut) then Some so_far else cut s n so_far)
+      (sym (same_group (open_group (left_now st_at_cut)) (next_volume (left_now st_at_cut)) act.mark) ∙ sym (ap (λ (x : Event). is_cut_reply (event_reply s st_at_cut x act.mark)) e))
+      ∙ ap (λ b. if is_cut_reply (reply s st_at_cut act) && b then Some so_far else cut s n so_far) (sym (same_set n (in_progress st_at_cut))) where
+        by_step : (a b : Bool) (o : Option (List Act)) → is_cut_group (open_group (left_now st_at_cut)) ≡ a → is_set n (in_progress st_at_cut) ≡ b → cut s n so_far ≡ o
+            → or_cut o (cut_if (true && a && b) so_far None) ≡ (if a && b then Some so_far else o)
+        by_step true true (Some before) e f g = absurd (cut_before s so_far act n (in_progress st_at_cut) before refl f e g)
+        by_step true true None e f g = refl
+        by_step true false (Some before) e f g = refl
+        by_step true false None e f g = refl
+        by_step false b (Some before) e f g = refl
+        by_step false b None e f g = refl
+
+pub cuts_at_the_step : (s : Plan) (so_far : List Act) (act : Act) → CutsAtTheStep s so_far act
+cuts_at_the_step s so_far act = grind (arith, stepped, not_cut)
+
+-- ## `properties` tells a kept image: its set's context, the clock at the cut, and the slots that it uses.
+
+-- ## the row of a kept image
+
+row_of_kept : (row : Option SetRow) (o : Option ℕ) (k : Kept) → kept_of row o ≡ Some k → row ≡ Some k.row
+row_of_kept row o k e = grind arith
+
+-- ## the slots that it uses
+
+filter_along : (f g : ℕ → Bool) → ((b : ℕ) → f b ≡ g b) → (bs : List ℕ) → filter f bs ≡ filter g bs
+filter_along f g same bs = grind arith
+
+uses : (n set p : ℕ) (ws : List Write) (images : List Image) → AreInTime (length ws) images → point_in set images ≡ Some p
+    → used_by n ws images set ≡ Some (overwritten n set p (record { writes = ws; images = images }))
+uses n set p ws [] t e = absurd cc
+uses n set p ws (i ∷ newer) t e = by_head (i.set == set) refl e (λ f. uses n set p ws newer t.2 f) where
+  by_head : (b : Bool) → (i.set == set) ≡ b → (if b then Some i.point else point_in set newer) ≡ Some p
+      → (point_in set newer ≡ Some p → used_by n ws newer set ≡ Some (overwritten n set p (record { writes = ws; images = newer })))
+      → (if b then Some (length (named n ws i newer)) else used_by n ws newer set) ≡ Some (overwritten n set p (record { writes = ws; images = i ∷ newer }))
+  by_head true f e ih =
+      ap (λ (bs : List ℕ). Some (length bs)) (filter_along (names (writes_since ws i.point newer)) (λ b. is_overwritten set b (i ∷ newer) p (drop p ws))
+      (λ b. since_cut set b ws i newer t.1 t.2 f ∙ ap (λ q. is_overwritten set b (i ∷ newer) q (drop q ws)) (some_same i.point p e)) (range_with_len 0 n))
+  by_head false f e ih =
+      ih e ∙ ap (λ (bs : List ℕ). Some (length bs)) (filter_along (λ b. is_overwritten set b newer p (drop p ws)) (λ b. is_overwritten set b (i ∷ newer) p (drop p ws))
+      (λ b. overwritten_along set b i newer p (drop p ws) (earlier set p i newer t.1 e)) (range_with_len 0 n))
+
+-- ## the reply
+
+time_of : (o : Option SetRow) (r : SetRow) (t : Option ℕ) → o ≡ Some r → option_map (λ (x : SetRow). x.cut_at) o ≡ Some t → r.cut_at ≡ t
+time_of o r t e f = some_same r.cut_at t (sym (ap (option_map (λ (x : SetRow). x.cut_at)) e) ∙ f)
+
+module _ (s : Plan) (so_far : List Act) (act : Act) (lane n v : ℕ) (e : act.event ≡ Line lane (op.Properties n v)) where
+  abbrev st_asked : State
+  st_asked = state s so_far
+
+  told : reply s st_asked act ≡ (properties s v (kept_image st_asked n v) st_asked).0
+  told = ap (λ x. (event_reply s st_asked x act.mark)) e
+
+  image_told : (o : Option Kept) → kept_image st_asked n v ≡ o → is_some o ≡ true → TellsTheImage s so_far n v (reply s st_asked act)
+  image_told None f g = absurd cc
+  image_told (Some k) f g =
+      let cut = at_the_cut s so_far n v k f in
+      let row = row_of_kept (row_of st_asked n) (point_in n (history_of st_asked v).images) k f in
+      let point = point_of (row_of st_asked n) (point_in n (history_of st_asked v).images) k f in
+      let used = uses (blocks_of s v) n k.point (history_of st_asked v).writes (history_of st_asked v).images (images_in_time s so_far v) point in
+      let time = time_of (row_of st_asked n) k.row (Some (state s cut.before).clock) row (cut_time s so_far n cut.before cut.is_cut) in
+      let number = row_number n st_asked.sets k.row row in
+      record {
+        set = k.row;
+        is_set = row;
+        before = cut.before;
+        is_cut = cut.is_cut;
+        slots = overwritten (blocks_of s v) n k.point (history_of st_asked v);
+        point = k.point;
+        is_point = point;
+        uses = refl;
+        tells = told ∙ ap (λ o. (properties s v o st_asked).0) f
+            ∙ ap (λ t. PropertiesOf k.row.context (unwrap_or t 0) (unwrap_or (used_by (blocks_of s v) (history_of st_asked v).writes (history_of st_asked v).images k.row.number) 0)) time
+            ∙ ap (λ m. PropertiesOf k.row.context (state s cut.before).clock (unwrap_or (used_by (blocks_of s v) (history_of st_asked v).writes (history_of st_asked v).images m) 0)) number
+            ∙ ap (λ u. PropertiesOf k.row.context (state s cut.before).clock (unwrap_or u 0)) used;
+      }
+
+pub properties_tell : (s : Plan) (so_far : List Act) (act : Act) → PropertiesTell s so_far act
+properties_tell s so_far act = grind (arith, image_told, told)

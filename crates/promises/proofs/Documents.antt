@@ -1,25 +1,24 @@
 -- The component document lists what the session has named, and what comes with it.
 use Rattle.std.proofs.Common.{◌≡◌, ◌∙◌, ℕ, ◌+◌, ◌==◌, zero, suc, List, [], ◌∷◌, ◌++◌, Option, Some, None, refl, Bool, true, false, ap, sym, subst, map, length, fold, arith}
 use Rattle.std.specs.Prelude.{◌&&◌, ◌||◌, not, nat_lt, if◌then◌else◌, slice_get}
-use Rattle.promises.proofs.Words.{list_any, bytes_eq, length-map, compact_text, AsyncCancelled, BadState, Mark, said_of, Part, Meta, full_name, is_ancestor}
+use Rattle.promises.proofs.Words.{list_any, bytes_eq, length-map, compact_text, AsyncCancelled, Mark, said_of, Part, Meta, full_name, is_ancestor}
 use Rattle.promises.proofs.Words.{row_gathered, is_among, Course, begun, members_from, prepared as course_prepared, Pair, Named, AllOf, is_pair, has_pair}
 use Rattle.promises.proofs.Words.{with_pair, found_from, found_in, Names, naming_if, naming_found, naming_of, is_taker, takers, has_named_ancestor, choice_if}
 use Rattle.promises.proofs.Words.{choices_from, choices_of, chosen_from, is_named, Mode, Components, All, Session, mode_of, Op, Target, target_of, Plan}
-use Rattle.promises.proofs.Words.{WriterPlan, token, Event, Line, Reply, DocumentOf, State, start, in_progress, Replied, refused, write, followed, failed, Act}
+use Rattle.promises.proofs.Words.{WriterPlan, token, Event, Line, Reply, DocumentOf, State, start, in_progress, Replied, write, followed, failed, Act}
 use Rattle.promises.proofs.Words.{enabled, idle_now, after, state, named_known_components, is_accepted, is_first, is_part, line_names, event_names, names_if}
 use Rattle.promises.proofs.Words.{names_from, has_named, is_below, parts_listed, writer_listed, writers_listed, TellsDocument, progress, is_chosen, is_unfit}
 use Rattle.promises.proofs.Words.{choosing, is_writer, ChangesNothing, Covers, told_covered, after_not_enabled, false_from_ne_true, choices_data, document_of}
-use Rattle.promises.proofs.Words.{document_text, is_known, meta_if, known_metas, selected, has_no_volume, volumes_of, start_set, closed, true_not_false}
+use Rattle.promises.proofs.Words.{document_text, is_known, meta_if, known_metas, selected, volumes_of, start_set, closed, true_not_false}
 use Rattle.set_agenda.specs.declared.kind.Kind.TheVariants as kind
 use Rattle.requestor.specs.declared.session_call.SessionCall.TheVariants as call
 use Rattle.scenario.specs.declared.op.Op.TheVariants as op
 use Rattle.vss_model.specs.Sessions.{known_from}
 use Rattle.promises.proofs.Accepted.{tells, line_reply}
-use Rattle.promises.proofs.Members.{is_selected, taker_is}
-use Rattle.promises.proofs.Participants.{chosen_by, follows_all, standing, pair_added}
-use Rattle.promises.proofs.Prepares.{named_is_known}
+use Rattle.promises.proofs.Members.{is_selected, taker_is, SameChoice, mode_in, same_choice, same_course, on_begun, on_followed, on_write, on_revert, on_ticked}
+use Rattle.promises.proofs.Members.{on_agenda_begun, on_failed_in, on_answered, on_stepped}
+use Rattle.promises.proofs.Participants.{chosen_by, follows_all, standing, pair_added, named_is_known}
 use Rattle.promises.proofs.Progress.{stands_all}
-use Rattle.promises.proofs.SameChoice.{SameChoice, mode_in, same_choice, same_course, on_begun, on_followed, on_write, on_revert, on_ticked, on_agenda_begun, on_failed_in, on_answered, on_stepped}
 
 -- ## what a line names
 
@@ -62,8 +61,7 @@ module _ (w i : ℕ) where
       ]) refl e
 
   pair_of : (u : ℕ) (name : List ℕ) (o : Option (Option Meta)) (plan : Option WriterPlan) (ps new : List Pair) → ((m : Meta) → o ≡ Some (Some m) → IsOfPlan plan m)
-      → naming_of u name o ps ≡ Names new
-      → has_pair new w i ≡ (has_pair ps w i || ((u == w) && is_part plan name i))
+      → naming_of u name o ps ≡ Names new → has_pair new w i ≡ (has_pair ps w i || ((u == w) && is_part plan name i))
   pair_of u name None plan ps new own e = absurd cc
   pair_of u name (Some None) plan ps new own e = absurd cc
   pair_of u name (Some (Some m)) plan ps new own e =
@@ -92,10 +90,6 @@ module _ (s : Plan) (w i : ℕ) (st : State) (c : Bool) (h : NamesSo w i st c) w
 
   same : (x : State) → SameChoice st x → NamesSo w i x c
   same x e = beside x e.explicit e.mode
-
-  begun_if : (b : Bool) (lane : ℕ) (o : Op) (mark : Mark) (x : Replied) → line_names s w i o (refused BadState st).0 c ≡ c → line_names s w i o x.0 c ≡ c → NamesSo w i x.1 c
-      → Next (Line lane o) mark (if b then refused BadState st else x)
-  begun_if b lane o mark x e f g = grind arith
 
   on_prepare : (q : Session) → NamesSo w i (followed true (course_prepared (takers (length s.writers) (selected s q st)) st.clock st.course) st) c
   on_prepare q =
@@ -127,9 +121,9 @@ module _ (s : Plan) (w i : ℕ) (st : State) (c : Bool) (h : NamesSo w i st c) w
         ∙ ap (λ b. b || ((u == w) && is_part (slice_get s.writers u) (token s full) i)) (h q g.stands);
     starts = λ lane q mark g e. beside (start_set q st).1 refl (sym (ap mode_in g.stands));
     adds = λ lane v r q mark g e f. h;
-    prepares = λ lane q mark g. begun_if (has_no_volume (in_progress st)) lane op.Prepare mark _ refl refl (on_prepare q);
-    snapshots = λ lane q mark g. begun_if (has_no_volume (in_progress st)) lane op.Snapshot mark _ refl refl
-        (same _ (on_agenda_begun kind.Snapshot st.course.members (volumes_of (in_progress st)) st st st.course (same_choice st) (same_course st.course)));
+    prepares = λ lane q mark g f. on_prepare q;
+    snapshots = λ lane q mark g f. same _
+        (on_agenda_begun kind.Snapshot st.course.members (volumes_of (in_progress st)) st st st.course (same_choice st) (same_course st.course));
     completes = λ lane q mark g. same _ (on_agenda_begun kind.Complete _ [] st st st.course (same_choice st) (same_course st.course));
     aborts = λ lane q mark e. same _ (on_failed_in (in_progress st) AsyncCancelled st st (same_choice st));
     ends = λ lane q mark e. on_close q (failed AsyncCancelled st);

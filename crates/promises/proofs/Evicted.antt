@@ -8,10 +8,10 @@ use Rattle.promises.proofs.Words.{running_incomplete, at, FewerIn, fewer_in_over
 use Rattle.promises.proofs.Words.{TellsEvicted, after_enabled, and-false, and_from, true_from_ne_false, or_left, or_from, set_loses_image, cleared, with_room}
 use Rattle.promises.proofs.Words.{put, write, number_is}
 use Rattle.scenario.specs.declared.op.Op.TheVariants as op
-use Rattle.promises.proofs.Truth.{both_ways}
+use Rattle.promises.proofs.Members.{both_ways, beyond, still_less}
 use Rattle.promises.proofs.Images.{volumes_put, volumes_room, roomy, wants_or_fails}
 use Rattle.promises.proofs.Participants.{off}
-use Rattle.promises.proofs.Members.{beyond, still_less}
+use Rattle.std.proofs.lemmas.List.Folds.{list_all-append}
 
 -- ## the volumes that lose an image
 
@@ -98,11 +98,7 @@ module _ (n v : ℕ) (hs ks : List History) where
 -- ## in order
 
 all_of_both : (test : Evicted → Bool) (xs ys : List Evicted) → list_all test xs ≡ true → list_all test ys ≡ true → list_all test (xs ++ ys) ≡ true
-all_of_both test [] ys e f = f
-all_of_both test (x ∷ xs) ys e f = by_first (test x) e (all_of_both test xs ys) where
-  by_first : (b : Bool) → (b && list_all test xs) ≡ true → (list_all test xs ≡ true → list_all test ys ≡ true → list_all test (xs ++ ys) ≡ true) → (b && list_all test (xs ++ ys)) ≡ true
-  by_first true e ih = ih e f
-  by_first false e ih = absurd cc
+all_of_both test xs ys e f = list_all-append test xs ys ∙ and_from (list_all test xs) (list_all test ys) e f
 
 -- images of one set, on volumes from u on
 abbrev of_set : ℕ → ℕ → List History → List History → List Evicted

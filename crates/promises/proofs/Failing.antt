@@ -1,24 +1,31 @@
--- Each cause fails the set in progress in the act that gives it.
-use Rattle.promises.proofs.Words.{Fill, Stamp, payload_bytes, Order, SetOutcome, VssResult, InsufficientStorage, AsyncCancelled, Said, is_ok, Mark, Fault, Write, said_of, Group}
-use Rattle.promises.proofs.Words.{Flush, Agenda, left, open_order, open_group, Go, Session, makes_set, check_other, owner_only, verdict_of}
-use Rattle.promises.proofs.Words.{Op, Plan, Event, State, SetRow, in_progress, left_now, Act, enabled, happens, order_of_writer, idle_now, after, state, NumberedFrom, IsOfSession}
-use Rattle.promises.proofs.Words.{IsOrderly, has_failed, needs_consent, is_veto, is_refused, is_late_in, is_late, is_fault, is_flush_step, loses_own_image, owns, line_gives_cause, gives_cause}
-use Rattle.promises.proofs.Words.{IsFailed, fails_with_cause, outcome_is_running, flush_fails, orderly, FailsForCause, after_enabled}
-use Rattle.std.proofs.Common.{◌≡◌, ◌∙◌, ℕ, ◌+◌, ◌==◌, List, Option, Some, refl, Bool, true, false, ap, sym, subst, map, arith}
-use Rattle.std.specs.Prelude.{◌&&◌, not}
-use Rattle.std.proofs.lemmas.Bool.{and_parts}
+-- Each cause fails the set in progress in the act that gives it; a write does just where it has no slot unless the set's image goes.
+use Rattle.std.proofs.Common.{◌≡◌, ◌∙◌, ℕ, ◌+◌, ◌==◌, List, Option, Some, refl, Bool, true, false, ap, sym, subst, map, arith, ◌<◌, ◌≤◌, zero, suc, [], ◌∷◌}
+use Rattle.std.proofs.Common.{None, find, length}
+use Rattle.std.proofs.lemmas.Bool.{and_parts, false_from_ne_true}
+use Rattle.std.specs.Prelude.{◌&&◌, not, ◌||◌, nat_lt, unwrap_or, if◌then◌else◌, slice_get}
 use Rattle.vss_names.specs.declared.set_outcome.SetOutcome.TheVariants.{Running as RunningSet, Failed as FailedSet}
-use Rattle.writer_calls.specs.declared.answer.Answer.{Answer}
 use Rattle.set_agenda.specs.Course.{Course, failed as course_failed, is_decisive, decided, answered_to, answered as course_answered, timed as course_timed}
+use Rattle.writer_calls.specs.declared.answer.Answer.{Answer}
 use Rattle.requestor.specs.declared.session_call.SessionCall.TheVariants as call
 use Rattle.scenario.specs.declared.op.Op.TheVariants as op
-use Rattle.vss_model.specs.declared.event.Event.TheVariants.{Line, Answer as AnswerEvent, Provider, Idle}
-use Rattle.vss_model.specs.Ending.{ending, row_settled, runs}
-use Rattle.vss_model.proofs.StateForm.{concluded, followed, failed_in, failed, cleared, with_room_if, with_room, put, write, closed, line_in, judged, answered, ticked, later, called, line}
+use Rattle.vss_model.specs.Steps.{ending, row_settled, runs}
 use Rattle.vss_model.specs.Images.{set_loses_image}
-use Rattle.promises.proofs.GoneImages.{fails_as}
+use Rattle.vss_model.specs.declared.event.Event.TheVariants.{Line, Answer as AnswerEvent, Provider, Idle}
+use Rattle.vss_model.proofs.StateForm.{concluded, followed, failed_in, failed, cleared, with_room_if, with_room, put, write, closed, line_in, judged, answered}
+use Rattle.vss_model.proofs.StateForm.{ticked, later, called, line}
+use Rattle.promises.proofs.GoneImages.{fails_as, gone_group, left_in_group, least_sets}
 use Rattle.promises.proofs.Limits.{is_due_in, posted_fails, timed_fails}
 use Rattle.promises.proofs.Times.{late_is_due}
+use Rattle.promises.proofs.Words.{Fill, Stamp, payload_bytes, Order, SetOutcome, VssResult, InsufficientStorage, AsyncCancelled, Said, is_ok, Mark, Fault}
+use Rattle.promises.proofs.Words.{Write, said_of, Group, Flush, Agenda, left, open_order, open_group, Go, Session, makes_set, check_other, owner_only}
+use Rattle.promises.proofs.Words.{verdict_of, Op, Plan, Event, State, SetRow, in_progress, left_now, Act, enabled, happens, order_of_writer, idle_now, after}
+use Rattle.promises.proofs.Words.{state, NumberedFrom, IsOfSession, IsOrderly, has_failed, needs_consent, is_veto, is_refused, is_late_in, is_late, is_fault}
+use Rattle.promises.proofs.Words.{is_flush_step, loses_own_image, owns, line_gives_cause, gives_cause, IsFailed, fails_with_cause, outcome_is_running}
+use Rattle.promises.proofs.Words.{flush_fails, orderly, FailsForCause, after_enabled, range_with_len, ltb-false, ltb-true, or_right, History, Placed}
+use Rattle.promises.proofs.Words.{lacks_slot, gone_up_to, evicted_up_to, Target, target_of, slots_of, group_of, has_image, going_up_to, has_lost_image}
+use Rattle.promises.proofs.Words.{true_not_false, at, HasNoSlot, WritesFailForSlots, within, some_same}
+
+-- ## Each cause fails the set in progress in the act that gives it.
 
 -- ## a veto
 
@@ -139,8 +146,7 @@ fault_mark : (m : Mark) → is_fault m ≡ true → m ≡ Fault
 fault_mark m e = grind arith
 
 happens_fails : (event : Event) (s : Plan) (so_far : List Act) (act : Act) (r : SetRow) → act.event ≡ event → in_progress (state s so_far) ≡ Some r
-    → enabled s (state s so_far) act.event ≡ true → gives_cause s (state s so_far) event act.mark ≡ true
-    → IsFailed (after s (state s so_far) act) r.number
+    → enabled s (state s so_far) act.event ≡ true → gives_cause s (state s so_far) event act.mark ≡ true → IsFailed (after s (state s so_far) act) r.number
 happens_fails (Line lane o) s so_far act r f e on g =
     let st = state s so_far in
     subst (λ x. IsFailed x r.number) (sym (after_enabled s st act on ∙ ap (λ x. (happens s x act.mark st).1) f))
@@ -159,3 +165,138 @@ happens_fails Idle s so_far act r f e on g =
 
 pub fails_for_cause : (s : Plan) (so_far : List Act) (act : Act) → FailsForCause s so_far act
 fails_for_cause s so_far act = grind (arith, happens_fails, fails_with_cause)
+
+-- ## A write fails the set in progress just where it has no slot unless the set's image goes.
+
+-- ## an image that goes
+
+-- a volume on which the image of set n was, and is not any more
+record IsLost (n : ℕ) (hs ks : List History) : Type 0 where
+  volume : ℕ
+  was : has_image n (at hs volume) ≡ true
+  gone : has_image n (at ks volume) ≡ false
+
+lost_there : (n : ℕ) (hs ks : List History) → has_lost_image n hs ks ≡ true → IsLost n hs ks
+lost_there n [] ks e = absurd cc
+lost_there n (h ∷ hs) [] e = absurd cc
+lost_there n (h ∷ hs) (k ∷ ks) e = by_head (has_image n h) (has_image n k) refl refl e (lost_there n hs ks) where
+  later : IsLost n hs ks → IsLost n (h ∷ hs) (k ∷ ks)
+  later more = record { volume = suc more.volume; was = more.was; gone = more.gone }
+
+  by_head : (a b : Bool) → has_image n h ≡ a → has_image n k ≡ b → ((a && not b) || has_lost_image n hs ks) ≡ true → (has_lost_image n hs ks ≡ true → IsLost n hs ks) → IsLost n (h ∷ hs) (k ∷ ks)
+  by_head true false f g e ih = record { volume = 0; was = f; gone = g }
+  by_head true true f g e ih = later (ih e)
+  by_head false b f g e ih = later (ih e)
+
+-- of those up to m, in a group
+lost_in_group : (m n : ℕ) (ps : List Placed) (hs : List History) (v : ℕ) → within (slice_get ps v) ≡ true → has_image n (at hs v) ≡ true → n ≤ m → has_lost_image n hs (gone_up_to m ps hs) ≡ true
+lost_in_group m n [] hs v w e l = absurd cc
+lost_in_group m n (p ∷ ps) [] v w e l = absurd (true_not_false (has_image n (at [] v)) e (no_image v)) where
+  no_image : (v : ℕ) → has_image n (at [] v) ≡ false
+  no_image zero = refl
+  no_image (suc v) = refl
+lost_in_group m n (p ∷ ps) (h ∷ hs) zero w e l = by_parts (has_image n h) (has_image n (at (gone_up_to m (p ∷ ps) (h ∷ hs)) 0)) e refl where
+  over : (m n : ℕ) → m < n → n ≤ m → ⊥
+  over m n l h = omega arith
+
+  by_parts : (a b : Bool) → a ≡ true → has_image n (at (gone_up_to m (p ∷ ps) (h ∷ hs)) 0) ≡ b → ((a && not b) || has_lost_image n hs (gone_up_to m ps hs)) ≡ true
+  by_parts true true f g = absurd (over m n (left_in_group m n (p ∷ ps) (h ∷ hs) 0 w g) l)
+  by_parts true false f g = refl
+  by_parts false b f g = absurd cc
+lost_in_group m n (p ∷ ps) (h ∷ hs) (suc v) w e l = or_right _ _ (lost_in_group m n ps hs v w e l)
+
+-- ## how many sets go
+
+reaches : (test : ℕ → Bool) (a len bound : ℕ) → bound ≤ a + len → ((m : ℕ) → a ≤ m → m < bound → test m ≡ false) → bound ≤ unwrap_or (find test (range_with_len a len)) (a + len)
+reaches test a zero bound l h = l
+reaches test a (suc len) bound l h = by_head (test a) (nat_lt a bound) refl refl (reaches test (a + 1) len bound (subst (λ k. bound ≤ k) (one_more a len) l) (λ m i j. h m (less a m i) j))
+  where
+    one_more : (a len : ℕ) → a + suc len ≡ a + 1 + len
+    one_more a len = omega arith
+
+    less : (a m : ℕ) → a + 1 ≤ m → a ≤ m
+    less a m l = omega arith
+
+    itself : (a : ℕ) → a ≤ a
+    itself a = omega arith
+
+    by_head : (b c : Bool) → test a ≡ b → nat_lt a bound ≡ c → bound ≤ unwrap_or (find test (range_with_len (a + 1) len)) (a + 1 + len)
+        → bound ≤ unwrap_or (if b then Some a else find test (range_with_len (a + 1) len)) (a + suc len)
+    by_head true true e f i = absurd (true_not_false (test a) e (h a (itself a) (ltb-true a bound f)))
+    by_head true false e f i = ltb-false a bound f
+    by_head false c e f i = subst (λ k. bound ≤ unwrap_or (find test (range_with_len (a + 1) len)) k) (sym (one_more a len)) i
+
+-- as many go, at least, as leave no slot
+goes_so_far : (sets slots : ℕ) (ps : List Placed) (v b : ℕ) (hs : List History) (n : ℕ) → n ≤ sets
+    → ((m : ℕ) → m < n → lacks_slot slots ps v b (gone_up_to m ps hs) ≡ true) → n ≤ evicted_up_to sets slots ps v b hs
+goes_so_far sets slots ps v b hs n l h =
+    subst (λ k. n ≤ unwrap_or (find (λ m. not (lacks_slot slots ps v b (gone_up_to m ps hs))) (range_with_len 0 sets)) k) (from_none sets)
+    (reaches (λ m. not (lacks_slot slots ps v b (gone_up_to m ps hs))) 0 sets n (subst (λ k. n ≤ k) (sym (from_none sets)) l) (λ m i j. ap not (h m j))) where
+      from_none : (k : ℕ) → 0 + k ≡ k
+      from_none k = omega arith
+
+-- the numbers of sets are no greater than there are sets
+numbered_within : (k : ℕ) (rows : List SetRow) (test : SetRow → Bool) (r : SetRow) → NumberedFrom k rows → find test rows ≡ Some r → r.number + 1 ≤ k + length rows
+numbered_within k [] test r num e = absurd cc
+numbered_within k (q ∷ rows) test r num e = by_head (test q) e (numbered_within (k + 1) rows test r num.1) where
+  here : (a n : ℕ) → a ≡ k → a + 1 ≤ k + suc n
+  here a n e = omega (arith, e)
+
+  later : (a n : ℕ) → a + 1 ≤ k + 1 + n → a + 1 ≤ k + suc n
+  later a n l = omega arith
+
+  by_head : (b : Bool) → (if b then Some q else find test rows) ≡ Some r → (find test rows ≡ Some r → r.number + 1 ≤ k + 1 + length rows) → r.number + 1 ≤ k + suc (length rows)
+  by_head true e ih = here r.number (length rows) (ap (λ (x : SetRow). x.number) (sym (some_same q r e)) ∙ num.0)
+  by_head false e ih = later r.number (length rows) (ih e)
+
+-- ## both ways
+
+module _ (s : Plan) (st : State) (r : SetRow) (is : in_progress st ≡ Some r) (v b : ℕ) where
+  abbrev most : ℕ
+  most = going_up_to s v b st
+
+  loses_of : loses_own_image s st v b ≡ has_lost_image r.number st.volumes (cleared s v b st).volumes
+  loses_of = ap (λ o. set_loses_image o st.volumes (cleared s v b st).volumes) is
+
+  pub no_slot : loses_own_image s st v b ≡ true → HasNoSlot s st r.number v b
+  no_slot e =
+      let lost = lost_there r.number st.volumes (cleared s v b st).volumes (sym loses_of ∙ e) in
+      let went = gone_group most r.number (group_of s v) st.volumes lost.volume lost.was lost.gone in
+      record {
+        volume = lost.volume;
+        shared = went.0;
+        stands_there = lost.was;
+        full = λ m l. least_sets (length st.sets) (slots_of s v) (group_of s v) v b st.volumes m (less m r.number most l went.1);
+      } where
+        less : (a b c : ℕ) → a < b → b ≤ c → a < c
+        less a b c l h = omega arith
+
+  pub loses : NumberedFrom 1 st.sets → HasNoSlot s st r.number v b → loses_own_image s st v b ≡ true
+  loses num h =
+      loses_of
+      ∙ lost_in_group most r.number (group_of s v) st.volumes h.volume h.shared h.stands_there
+      (goes_so_far (length st.sets) (slots_of s v) (group_of s v) v b st.volumes r.number (within_sets r.number (length st.sets) (numbered_within 1 st.sets _ r num is)) h.full)
+    where
+      within_sets : (n k : ℕ) → n + 1 ≤ 1 + k → n ≤ k
+      within_sets n k l = omega arith
+
+-- where no set is in progress, or its images need not go
+pub loses_none : (s : Plan) (st : State) (v b : ℕ) → ((r : SetRow) → in_progress st ≡ Some r → HasNoSlot s st r.number v b → ⊥) → loses_own_image s st v b ≡ false
+loses_none s st v b h = by_set (in_progress st) refl where
+  by_set : (o : Option SetRow) → in_progress st ≡ o → loses_own_image s st v b ≡ false
+  by_set None e = ap (λ o. set_loses_image o st.volumes (cleared s v b st).volumes) e
+  by_set (Some r) e = false_from_ne_true (loses_own_image s st v b) (λ f. h r e (no_slot s st r e v b f))
+
+some_target : (a b : Target) → Some a ≡ Some b → a ≡ b
+some_target a b e = cc
+
+cause_of_write : (s : Plan) (st : State) (lane : ℕ) (o : Op) (t : Target) (act : Act) → act.event ≡ Line lane o → target_of o ≡ Some t
+    → gives_cause s st act.event act.mark ≡ loses_own_image s st t.volume t.block
+cause_of_write s st lane o t act e f = grind (arith, some_target)
+
+pub writes_fail_for_slots : (s : Plan) (so_far : List Act) (act : Act) → WritesFailForSlots s so_far act
+writes_fail_for_slots s so_far act = record {
+  fails = λ lane o t r e f i on h. (fails_for_cause s so_far act).fails r i on
+      (cause_of_write s (state s so_far) lane o t act e f ∙ loses s (state s so_far) r i t.volume t.block (orderly s so_far).numbered h);
+  only = λ lane o t r q e f i g h. no_slot s (state s so_far) r i t.volume t.block (sym (cause_of_write s (state s so_far) lane o t act e f) ∙ (fails_for_cause s so_far act).only r q i g h);
+}

@@ -6,10 +6,10 @@ use Rattle.promises.proofs.Words.{Clean, Write, History, point_in, dropped, writ
 use Rattle.promises.proofs.Words.{group_of, Event, State, SetRow, Kept, is_running, in_progress, row_of, history_of, has_image, kept_image, row_settled}
 use Rattle.promises.proofs.Words.{followed, runs, failed_in, failed, NumberedFrom, has_failed, Act, enabled, idle_now, after, state, row_number, kept_point}
 use Rattle.promises.proofs.Words.{true_not_false, orderly, at, FewerIn, fewer_written, fewer_in_same, fewer_in_change, fewer_in_over, fewer_images_dropped}
-use Rattle.promises.proofs.Words.{Covers, covered, after_enabled, after_not_enabled, by_if, false_from_ne_true, Course, answered as course_answered}
+use Rattle.promises.proofs.Words.{Covers, covered, after_enabled, after_not_enabled, false_from_ne_true, Course, answered as course_answered}
 use Rattle.promises.proofs.Words.{stepped as course_stepped, timed as course_timed, change_at, Line, Provider, Idle, going_up_to, set_loses_image, is_backup}
 use Rattle.promises.proofs.Words.{Replied, cleared, with_room_if, with_room, put, write, reverted_as, images_released, closed, step_made, stepped_as, ticked}
-use Rattle.promises.proofs.Words.{later, has_no_volume, stands, Fails, IsWanted, Takes, TakesBy, ImagesGoForCause, course-step_made}
+use Rattle.promises.proofs.Words.{later, stands, Fails, IsWanted, Takes, TakesBy, ImagesGoForCause, course-step_made}
 use Rattle.scenario.specs.declared.op.Op.TheVariants as op
 use Rattle.scenario.specs.declared.line.Line.{Line as Does}
 use Rattle.vss_model.specs.declared.event.Event.TheVariants.{Answer as AnswerEvent}
@@ -174,10 +174,8 @@ module _ (s : Plan) (st : State) (num : NumberedFrom 1 st.sets) (n v : ℕ) wher
     names = λ lane w full q explicit mark i named h g. absurd (true_not_false (stands st n v) h g);
     starts = λ lane q mark i e h g. absurd (true_not_false (stands st n v) h g);
     adds = λ lane u r q mark i e f h g. absurd (true_not_false (stands st n v) h g);
-    prepares = λ lane q mark i. by_if (Goes (Line lane op.Prepare) mark) (has_no_volume (in_progress st)) _ _
-        (λ h g. absurd (true_not_false (stands st n v) h g)) (λ h g. by_course (Line lane op.Prepare) true _ st refl refl h g);
-    snapshots = λ lane q mark i. by_if (Goes (Line lane op.Snapshot) mark) (has_no_volume (in_progress st)) _ _
-        (λ h g. absurd (true_not_false (stands st n v) h g)) (λ h g. by_course (Line lane op.Snapshot) true _ st refl refl h g);
+    prepares = λ lane q mark i f h g. by_course (Line lane op.Prepare) true _ st refl refl h g;
+    snapshots = λ lane q mark i f h g. by_course (Line lane op.Snapshot) true _ st refl refl h g;
     completes = λ lane q mark i h g. by_course (Line lane op.Complete) true _ st refl refl h g;
     aborts = λ lane q mark e. by_failure (Line lane op.Abort) AsyncCancelled;
     ends = λ lane q mark e. on_close lane q AsyncCancelled e;

@@ -5,9 +5,8 @@ use Rattle.promises.proofs.Words.{list_any, range_with_len, list_any-append, Wri
 use Rattle.promises.proofs.Words.{Copy, copy_of, named, writes_since, copies_of, copies_from, VolumeRow, Plan, blocks_in, blocks_of, placed, placed_in}
 use Rattle.promises.proofs.Words.{is_among, Act, images_in_time, at, place_from, is_cut_by, is_overwritten, is_copy, are_once, KeepsCopies, within, and-false}
 use Rattle.promises.proofs.Words.{some_same, and_from, and_parts, or-false, true_not_false}
-use Rattle.promises.proofs.Truth.{same_number}
-use Rattle.promises.proofs.Copies.{later_set, InTimeAll}
-use Rattle.promises.proofs.Members.{none_passes, range_passes, beyond, still_less}
+use Rattle.promises.proofs.Members.{same_number, none_passes, range_passes, beyond, still_less}
+use Rattle.promises.proofs.Contents.{later_set, InTimeAll}
 
 -- ## the copies of one image
 

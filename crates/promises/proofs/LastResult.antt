@@ -1,19 +1,21 @@
 -- The last result of a session is what the acts have made of it.
-use Rattle.promises.proofs.Words.{and_left, Context, VssResult, AsyncFinished, AsyncPending, AsyncCancelled, BadState, Mark, Clean, Write, said_of, open_group, next_volume, Course, prepared}
-use Rattle.promises.proofs.Words.{snapshot_begun, takers, Session, makes_set, opened, agenda_ended, set_failed, Op, is_begin, begins_agenda, Target, target_of, Plan, Event}
-use Rattle.promises.proofs.Words.{Reply, Fine, Coded, Deleted, Idled, State, start, in_progress, left_now, runs, failed, Replied, refused, write, reverted_as, has_failed, Act, order_of_writer}
-use Rattle.promises.proofs.Words.{enabled, answer_reply, step_reply, idle_now, after, state, state-append, set_failure, begins_session, begins, result_by, result_after}
-use Rattle.promises.proofs.Words.{result_if, result_from, last_result, Covers, ChangesNothing, after_not_enabled, told_covered, some_same, append_nothing, and-false}
+use Rattle.promises.proofs.Words.{and_left, Context, VssResult, AsyncFinished, AsyncPending, AsyncCancelled, Mark, Clean, Write, said_of, open_group}
+use Rattle.promises.proofs.Words.{next_volume, Course, Session, makes_set, opened, agenda_ended, set_failed, Op, is_begin, begins_agenda, Target, target_of}
+use Rattle.promises.proofs.Words.{Plan, Event, Reply, Fine, Coded, Deleted, Idled, State, start, in_progress, left_now, runs, failed, Replied, write}
+use Rattle.promises.proofs.Words.{reverted_as, has_failed, Act, order_of_writer, enabled, answer_reply, step_reply, idle_now, after, state, state-append}
+use Rattle.promises.proofs.Words.{set_failure, begins_session, begins, result_by, result_after, result_if, result_from, last_result, Covers, ChangesNothing}
+use Rattle.promises.proofs.Words.{after_not_enabled, told_covered, some_same, by_last, check, is_blocked, happens, reply_is, Owns, result_told, AwaitTells}
+use Rattle.promises.proofs.Words.{called}
 use Rattle.std.proofs.Common.{◌≡◌, ◌∙◌, ℕ, List, [], ◌∷◌, ◌++◌, Option, Some, None, refl, Bool, true, false, ap, sym, subst, inl, inr, fold, arith}
-use Rattle.std.specs.Prelude.{◌&&◌, ◌||◌, not, option_map, if◌then◌else◌, length}
-use Rattle.set_agenda.specs.declared.kind.Kind.TheVariants as kind
-use Rattle.scenario.specs.declared.op.Op.TheVariants as op
+use Rattle.std.specs.Prelude.{◌&&◌, ◌||◌, not, option_map}
 use Rattle.vss_model.specs.declared.event.Event.TheVariants.{Line, Answer as AnswerEvent, Provider, Idle}
-use Rattle.vss_model.specs.Sessions.{selected, has_no_volume, volumes_of}
 use Rattle.vss_model.proofs.StateForm.{start_set, pending, closed}
 use Rattle.promises.proofs.Turns.{Turn, quiet_turn, write_turn, revert_turn, begun_turn, answer_turn, tick_turn, step_turn, abort_turn, add_turn, none_started}
-use Rattle.promises.proofs.CalmCourses.{calm_begun}
-use Rattle.promises.proofs.SetFailures.{failure_at}
+use Rattle.promises.proofs.CalmStages.{calm_begun}
+use Rattle.promises.proofs.Contexts.{failure_at}
+use Rattle.set_agenda.specs.declared.kind.Kind.TheVariants as kind
+use Rattle.scenario.specs.declared.op.Op.TheVariants as op
+use Rattle.requestor.specs.declared.session_call.SessionCall.TheVariants as call
 
 -- ## lines that end nothing
 
@@ -86,10 +88,9 @@ module _ (s : Plan) (so_far : List Act) (last : Option VssResult) where
     unfolding closed
     on_close event told q x p e = absurd cc
 
-    begun_if : (b : Bool) (lane : ℕ) (o : Op) (mark : Mark) (c : Course) → is_begin o ≡ false → begins_agenda o ≡ true
-        → (has_failed st.course.outcome ≡ false → has_failed c.outcome ≡ false) → Next (Line lane o) mark (if b then refused BadState st else pending c st)
-    begun_if true lane o mark c e f calm = quiet (Line lane o) (Coded BadState) st (and_left (is_begin o) _ e) (and-false (begins_agenda o)) refl (λ n. refl) refl
-    begun_if false lane o mark c e f calm = by_turn (Line lane o) (Coded AsyncPending) _ true (and_left (is_begin o) _ e)
+    on_begun : (lane : ℕ) (o : Op) (mark : Mark) (c : Course) → is_begin o ≡ false → begins_agenda o ≡ true
+        → (has_failed st.course.outcome ≡ false → has_failed c.outcome ≡ false) → Next (Line lane o) mark (pending c st)
+    on_begun lane o mark c e f calm = by_turn (Line lane o) (Coded AsyncPending) _ true (and_left (is_begin o) _ e)
         (ap (λ b. runs st || (b && true)) f ∙ or_true (runs st)) (begun_turn s so_far c calm)
 
     on_start : (lane : ℕ) (q : Session) → st.session ≡ Some q → makes_set q.stage ≡ false → IsLast (start_set q st).1 (result_after st (Line lane op.Start) (start_set q st).0 (start_set q st).1 last)
@@ -108,15 +109,13 @@ module _ (s : Plan) (so_far : List Act) (last : Option VssResult) where
       ticks = λ lane n mark. goes (Line lane (op.Tick n)) Fine _ refl refl (tick_turn s so_far n);
       begins = λ lane n all x mark e ctx. on_opened lane n all x;
       disables = λ lane w q mark g. quiet (Line lane (op.Disable w)) Fine _ refl refl refl (λ m. refl) refl;
-      gathers = λ lane q mark g. begun_if false lane op.Gather mark _ refl refl (calm_begun kind.Gather _ [] st.clock _);
+      gathers = λ lane q mark g. on_begun lane op.Gather mark _ refl refl (calm_begun kind.Gather _ [] st.clock _);
       names = λ lane w full q explicit mark g named. quiet (Line lane (op.Component w full)) Fine _ refl refl refl (λ m. refl) refl;
       starts = λ lane q mark g e. on_start lane q g.stands e;
       adds = λ lane v r q mark g e f. goes (Line lane (op.Add v)) Fine _ refl refl (add_turn s so_far v r);
-      prepares = λ lane q mark g. begun_if (has_no_volume (in_progress st)) lane op.Prepare mark
-          (prepared (takers (length s.writers) (selected s q st)) st.clock st.course) refl refl (calm_begun kind.Prepare _ [] st.clock _);
-      snapshots = λ lane q mark g. begun_if (has_no_volume (in_progress st)) lane op.Snapshot mark
-          (snapshot_begun (volumes_of (in_progress st)) st.clock st.course) refl refl (calm_begun kind.Snapshot st.course.members _ st.clock st.course);
-      completes = λ lane q mark g. begun_if false lane op.Complete mark _ refl refl (calm_begun kind.Complete _ [] st.clock st.course);
+      prepares = λ lane q mark g f. on_begun lane op.Prepare mark _ refl refl (calm_begun kind.Prepare _ [] st.clock _);
+      snapshots = λ lane q mark g f. on_begun lane op.Snapshot mark _ refl refl (calm_begun kind.Snapshot st.course.members _ st.clock st.course);
+      completes = λ lane q mark g. on_begun lane op.Complete mark _ refl refl (calm_begun kind.Complete _ [] st.clock st.course);
       aborts = λ lane q mark e. goes (Line lane op.Abort) Fine _ refl refl (abort_turn s so_far);
       ends = λ lane q mark e. on_close (Line lane op.End) Fine q (failed AsyncCancelled st);
       answers = λ w answer mark e. goes (AnswerEvent w answer) (answer_reply (order_of_writer st w) answer) _ refl refl (answer_turn s so_far w (said_of answer));
@@ -143,12 +142,19 @@ last_next s so_far act h q e =
     last_if s so_far (last_result s so_far) h (enabled s (state s so_far) act.event) act refl q (ap (λ (x : State). x.session) (sym (state-append s so_far act)) ∙ e)
     ∙ sym (result_from-append s (start s) None so_far act)
 
-last_from : (s : Plan) (so_far acts : List Act) → StandsLast s so_far → StandsLast s (so_far ++ acts)
-last_from s so_far [] h = subst (StandsLast s) (sym (append_nothing so_far)) h
-last_from s so_far (act ∷ acts) h = subst (StandsLast s) (regrouped so_far acts) (last_from s (so_far ++ act ∷ []) acts (last_next s so_far act h)) where
-  regrouped : (xs ys : List Act) → (xs ++ act ∷ []) ++ ys ≡ xs ++ act ∷ ys
-  regrouped [] ys = refl
-  regrouped (x ∷ xs) ys = ap (λ zs. x ∷ zs) (regrouped xs ys)
-
 pub last_all : (s : Plan) (so_far : List Act) → StandsLast s so_far
-last_all s so_far = last_from s [] so_far (λ q e. absurd cc)
+last_all s so_far = by_last (StandsLast s) (last_next s) (λ q e. absurd cc) so_far
+
+-- ## `await` tells the last result
+
+module _ (s : Plan) (st : State) (lane : ℕ) (q : Session) (own : Owns st lane q) where
+  await_reply : (b : Bool) → runs st ≡ b → not (is_blocked (check st.session (runs st) lane call.Await)) ≡ true → (called call.Await s lane op.Await st).0 ≡ result_told q.last
+  unfolding called
+  await_reply b e f = grind arith
+
+pub await_tells : (s : Plan) (so_far : List Act) (act : Act) → AwaitTells s so_far act
+await_tells s so_far act lane q e on own =
+    let st = state s so_far in
+    reply_is s st act ∙ ap (λ x. (happens s x act.mark st).0) e
+    ∙ await_reply s st lane q own (runs st) refl (ap (enabled s st) (sym e) ∙ on)
+    ∙ ap result_told (last_all s so_far q own.stands)

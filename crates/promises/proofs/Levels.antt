@@ -4,9 +4,8 @@ use Rattle.promises.proofs.Words.{WriterPlan, row_of_writer, Act, state, timeout
 use Rattle.std.proofs.Common.{◌≡◌, ◌∙◌, ℕ, ◌+◌, ◌≤◌, zero, suc, sym, List, [], ◌∷◌, ◌++◌, Some, refl, Bool, true, false, ap, map, arith}
 use Rattle.std.specs.Prelude.{slice_get}
 use Rattle.set_agenda.specs.Course.{Course, posted, rows_where, row_if, member_if, members_from, is_member, failed as course_failed, told, worked, released}
-use Rattle.vss_model.proofs.CourseFacts.{IsKeptByCalls, of_course}
-use Rattle.promises.proofs.Truth.{no_less}
-use Rattle.promises.proofs.Members.{one_on}
+use Rattle.vss_model.proofs.Rules.{IsKeptByCalls, of_course}
+use Rattle.promises.proofs.Members.{no_less, one_on}
 
 -- members in the order of their writers, from w on, each once
 abbrev pub Ascends : ℕ → List Member → Type 0

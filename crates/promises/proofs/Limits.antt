@@ -172,6 +172,4 @@ treats : (o : Option Running) (l : Running) (now : ℕ) (c : Course) → o ≡ S
 treats o l now c e d = grind (arith, treated_fails, same_running)
 
 pub timed_fails : (now : ℕ) (c : Course) → is_due_in now c c.agenda ≡ true → has_failed (course_timed now c).outcome ≡ true
-timed_fails now c e =
-    let spends = due_in now c c.agenda e in
-    posted_fails c _ (treats (spent_of now (limits_now c)) spends.one now c spends.is spends.fails)
+timed_fails now c e = let spends = due_in now c c.agenda e in posted_fails c _ (treats (spent_of now (limits_now c)) spends.one now c spends.is spends.fails)

@@ -3,7 +3,7 @@ use Rattle.std.proofs.Common.{◌≡◌, ◌∙◌, ℕ, ◌+◌, ◌==◌, ◌�
 use Rattle.std.specs.Prelude.{◌||◌, if◌then◌else◌, slice_range}
 use Rattle.promises.proofs.Words.{range_with_len, drop-append-le, take-append-le, length-drop, list_any-append, Write, names, blocks_named, to_restore}
 use Rattle.promises.proofs.Words.{restoring, or_cases, or_right, number_is}
-use Rattle.promises.proofs.Truth.{chain}
+use Rattle.promises.proofs.Members.{chain}
 
 -- whatever these writes name, those do
 abbrev pub NameNoMore : List Write → List Write → Type 0

@@ -1,10 +1,18 @@
--- The open group, and what it adds to the log.
-use Rattle.promises.proofs.Words.{list_any, Said, Kind, Place, Agenda, Entry, Open, places, is_orders, waited_for, with_group, left_from, groups_left, open_place, waits_now, is_among, head_or_0}
-use Rattle.promises.proofs.Words.{at_place, last_time, is_hold, first_time, first_hold, after, WaitsWell, waits-left_from}
-use Rattle.std.proofs.Common.{◌≡◌, ℕ, List, [], ◌∷◌, ◌++◌, Some, None, refl, Bool, true, false, ap, sym, subst, inl, inr, map, filter, arith}
-use Rattle.std.specs.Prelude.{◌&&◌, ◌||◌, if◌then◌else◌}
+-- The open group and what it adds to the log, the agendas that make a set, and the set that stays incomplete.
+use Rattle.std.proofs.Common.{◌≡◌, ℕ, List, [], ◌∷◌, ◌++◌, Some, None, refl, Bool, true, false, ap, sym, subst, inl, inr, map, filter, arith, ◌∙◌, Option, ◌⊎◌}
 use Rattle.std.proofs.lemmas.Bool.{and_parts}
-use Rattle.promises.proofs.Speaks.{Speaks}
+use Rattle.std.specs.Prelude.{◌&&◌, ◌||◌, if◌then◌else◌, not}
+use Rattle.set_agenda.specs.Course.{failed as course_failed}
+use Rattle.promises.proofs.Speaks.{Speaks, now_group}
+use Rattle.promises.proofs.Words.{list_any, Said, Kind, Place, Agenda, Entry, Open, places, is_orders, waited_for, with_group, left_from, groups_left}
+use Rattle.promises.proofs.Words.{open_place, waits_now, is_among, head_or_0, at_place, last_time, is_hold, first_time, first_hold, after, WaitsWell}
+use Rattle.promises.proofs.Words.{waits-left_from, Order, BackupComplete, is_ok, Group, Orders, Gather, Prepare, Snapshot, Complete, others, advance, plain}
+use Rattle.promises.proofs.Words.{is_asked, order_now, order_if, open_order, all_say, unasked_if-nil, groups_left-all_say, asked_if, and_from, unless}
+use Rattle.promises.proofs.Words.{true_not_false, among_filter, filter_passes, VssResult, Mark, Write, Session, Plan, State, SetRow, Kept, is_complete, cut_set}
+use Rattle.promises.proofs.Words.{step_made, has_complete, incomplete_settled, incomplete_map, Course, Ending, concluded, followed, failed_in, with_room_if}
+use Rattle.promises.proofs.Words.{put, write, reverted_as, closed, changed_number, changed_result}
+
+-- ## The open group, and what it adds to the log.
 
 -- ## the open group
 
@@ -145,3 +153,104 @@ new_hold now p said (w ∷ ws) e = by_test (is_hold p.group) e (new_hold now p s
   by_test : (b : Bool) → (b || has_hold (map (at_place p said now) ws)) ≡ true → (has_hold (map (at_place p said now) ws) ≡ true → b ≡ true) → b ≡ true
   by_test true e ih = refl
   by_test false e ih = ih e
+
+-- ## who has the order BackupComplete open: in its agenda there is no other group, and in no other agenda is that order
+
+-- ## one group alone
+
+abbrev pub is_last_order : Group → Bool
+is_last_order (Orders BackupComplete) = true
+is_last_order _ = false
+
+-- who has it open still, when these have said something, is none of them and had it open
+pub one_group : (p : Place) (waits ws : List ℕ) (f : Bool) (w : ℕ) → is_asked w (advance ws f (with_group p waits [])) ≡ true → (is_asked w (with_group p waits []) ≡ true) × (is_among w ws ≡ false)
+one_group p [] ws f w e = absurd cc
+one_group p (x ∷ xs) ws f w e = by_others (others ws (x ∷ xs)) refl (subst (λ later. is_asked w (with_group p (others ws (x ∷ xs)) later) ≡ true) (unasked_if-nil (is_orders p.group && f) ws) e)
+  where
+    by_others : (ys : List ℕ) → others ws (x ∷ xs) ≡ ys → is_asked w (with_group p ys []) ≡ true → ((is_orders p.group && is_among w (x ∷ xs)) ≡ true) × (is_among w ws ≡ false)
+    by_others [] g h = absurd cc
+    by_others (y ∷ ys) g h =
+        let parts = and_parts (is_orders p.group) (is_among w (y ∷ ys)) h in
+        let among = ap (is_among w) g ∙ parts.1 in (
+          and_from (is_orders p.group) (is_among w (x ∷ xs)) parts.0 (among_filter (λ z. not (is_among z ws)) w (x ∷ xs) among),
+          unless (is_among w ws) (filter_passes (λ z. not (is_among z ws)) w (x ∷ xs) among),
+        )
+
+abbrev pub last_place : Place
+last_place = plain (Orders BackupComplete)
+
+pub asked_it : (waits : List ℕ) (w : ℕ) → is_asked w (with_group last_place waits []) ≡ true → open_order (with_group last_place waits []) w ≡ Some BackupComplete
+asked_it waits w e = grind arith
+
+-- no other agenda has the order
+pub not_in_kind : (k : Kind) (a : Agenda) (w : ℕ) → a.kind ≡ k → every (λ q. not (is_last_order q.group)) (places k) ≡ true → open_order (groups_left a) w ≡ Some BackupComplete → ⊥
+not_in_kind k a w e h o = at_list (groups_left a) refl (order_is (is_asked w (groups_left a)) (order_now (groups_left a)) o) where
+  order_is : (b : Bool) (x : Option Order) → order_if b x ≡ Some BackupComplete → x ≡ Some BackupComplete
+  order_is true x e = e
+  order_is false x e = absurd cc
+
+  not_it : (g : Group) → g ≡ Orders BackupComplete → not (is_last_order g) ≡ true → ⊥
+  not_it g f i = true_not_false (not (is_last_order g)) i (ap (λ x. not (is_last_order x)) f)
+
+  at_list : (os : List Open) → groups_left a ≡ os → order_now os ≡ Some BackupComplete → ⊥
+  at_list [] g f = absurd cc
+  at_list (x ∷ xs) g f = not_it x.place.group (now_group (x ∷ xs) BackupComplete f) (in_kind (λ q. not (is_last_order q.group)) k a x xs e h g)
+
+pub complete_left : (a : Agenda) → a.kind ≡ Complete → groups_left a ≡ with_group last_place (waited_for a last_place) []
+complete_left a e = ap (λ k. left_from a (places k)) e
+
+pub still_open : (k : Kind) (said : Said) (now : ℕ) (ws : List ℕ) (a : Agenda) (w : ℕ) → a.kind ≡ k
+    → open_order (groups_left (all_say said now ws a)) w ≡ Some BackupComplete → (open_order (groups_left a) w ≡ Some BackupComplete) × (is_among w ws ≡ false)
+still_open Gather said now ws a w e o = absurd (not_in_kind Gather (all_say said now ws a) w e refl o)
+still_open Prepare said now ws a w e o = absurd (not_in_kind Prepare (all_say said now ws a) w e refl o)
+still_open Snapshot said now ws a w e o = absurd (not_in_kind Snapshot (all_say said now ws a) w e refl o)
+still_open Complete said now ws a w e o =
+    let left_now = complete_left a e in
+    let asked = asked_if (is_asked w (groups_left (all_say said now ws a))) (order_now (groups_left (all_say said now ws a))) BackupComplete o in
+    let parts =
+    one_group last_place (waited_for a last_place) ws (not (is_ok said)) w
+    (subst (λ os. is_asked w (advance ws (not (is_ok said)) os) ≡ true) left_now (subst (λ os. is_asked w os ≡ true) (groups_left-all_say said now ws a) asked)) in (
+      subst (λ os. open_order os w ≡ Some BackupComplete) (sym left_now) (asked_it (waited_for a last_place) w parts.0),
+      parts.1,
+    )
+
+-- ## A set that an act does not complete stays incomplete, and an agenda that begins completes none.
+
+module _ (n : ℕ) where
+  incomplete_ended : (e : Ending) (st : State) → is_complete st.course.outcome ≡ false → has_complete st.sets n ≡ false → has_complete (concluded e st).sets n ≡ false
+  incomplete_ended e st x2 h = grind (arith, incomplete_settled)
+
+  done_if : (b : Bool) (L : Type 0) (ran : Bool) (c : Course) (st : State) → is_complete c.outcome ≡ b → has_complete st.sets n ≡ false
+      → (is_complete c.outcome ≡ true → L) → (has_complete (followed ran c st).sets n ≡ false) ⊎ L
+  unfolding followed
+  done_if b x1 ran c st e h last = grind (arith, incomplete_ended)
+
+  pub done_followed : (L : Type 0) (ran : Bool) (c : Course) (st : State) → has_complete st.sets n ≡ false → (is_complete c.outcome ≡ true → L) → (has_complete (followed ran c st).sets n ≡ false) ⊎ L
+  done_followed L ran c st h last = done_if (is_complete c.outcome) L ran c st refl h last
+
+  pub incomplete_failed : (o : Option SetRow) (why : VssResult) (x : State) → has_complete x.sets n ≡ false → has_complete (failed_in o why x).sets n ≡ false
+  unfolding course_failed
+  incomplete_failed o why x h = grind (arith, incomplete_settled)
+
+  incomplete_room : (b : Bool) (x : State) → has_complete x.sets n ≡ false → has_complete (with_room_if b x).sets n ≡ false
+  incomplete_room b x h = grind (arith, incomplete_failed)
+
+  incomplete_put : (v : ℕ) (w : Write) (mark : Mark) (x : State) → has_complete x.sets n ≡ false → has_complete (put v w mark x).sets n ≡ false
+  incomplete_put v w mark x h = grind arith
+
+  pub incomplete_write : (s : Plan) (v : ℕ) (w : Write) (mark : Mark) (st : State) → has_complete st.sets n ≡ false → has_complete (write s v w mark st).1.sets n ≡ false
+  unfolding write
+  incomplete_write s v w mark st h = grind (arith, incomplete_put, incomplete_room)
+
+  pub incomplete_revert : (s : Plan) (v : ℕ) (x : Kept) (mark : Mark) (st : State) → has_complete st.sets n ≡ false → has_complete (reverted_as s v x mark st).1.sets n ≡ false
+  incomplete_revert s v x mark st h = grind arith
+
+  pub incomplete_closed : (q : Session) (x : State) → has_complete x.sets n ≡ false → has_complete (closed q x).sets n ≡ false
+  unfolding closed
+  incomplete_closed q x h = h
+
+  incomplete_cut : (o : Option SetRow) (st : State) → has_complete st.sets n ≡ false → has_complete (cut_set o st).sets n ≡ false
+  incomplete_cut o st h = grind (arith, incomplete_map, changed_number, changed_result)
+
+  pub incomplete_made : (g : Option Group) (v : Option ℕ) (st : State) → has_complete st.sets n ≡ false → has_complete (step_made g v st).sets n ≡ false
+  incomplete_made g v st h = grind (arith, incomplete_cut)

@@ -2,21 +2,21 @@
 -- nobody is.
 use Rattle.std.proofs.Common.{◌≡◌, ◌∙◌, ℕ, ◌+◌, ◌==◌, List, [], ◌∷◌, ◌++◌, Option, Some, None, refl, Bool, true, false, ap, sym, subst, inl, inr, map, filter, length, arith}
 use Rattle.std.specs.Prelude.{◌&&◌, ◌||◌, not, is_some, option_map, if◌then◌else◌, nat_lt}
-use Rattle.promises.proofs.Words.{next_volume, list_any, list_any-append, Context, Order, SetOutcome, VssResult, AsyncCancelled, AsyncPending, BadState, Said, Lost, is_ok}
+use Rattle.promises.proofs.Words.{next_volume, list_any, list_any-append, Context, Order, SetOutcome, VssResult, AsyncCancelled, AsyncPending, Said, Lost, is_ok}
 use Rattle.promises.proofs.Words.{row_gathered, WriterRow, Mark, Write, takers, said_of, Group, Orders, Kind, Gather, Prepare, Snapshot, Complete, Member}
 use Rattle.promises.proofs.Words.{Place, Agenda, Entry, Open, plain, order_of, has_said, same_place, writers_at, groups_left, left, open_group, open_place}
-use Rattle.promises.proofs.Words.{is_among, is_working, is_done, at_place, all_say, order_now, waits_now, spent_of, Stage, Session, opened}
+use Rattle.promises.proofs.Words.{is_among, is_working, is_done, at_place, all_say, order_now, waits_now, spent_of, Stage, Session, opened, append_assoc}
 use Rattle.promises.proofs.Words.{started as session_started, has_writers, stage_after, agenda_ended, set_failed, is_stage, Op, begins_agenda, Target}
 use Rattle.promises.proofs.Words.{target_of, Plan, runs, followed, failed_in, failed, SetRow, State, Kept, in_progress, left_now, Event, Reply, Fine, Coded}
 use Rattle.promises.proofs.Words.{Deleted, has_failed, IsAgendaOf, line_ticks, lost_order_if, Act, enabled, order_of_writer, idle_now, answer_reply, after}
 use Rattle.promises.proofs.Words.{state, LetsGo, is_pending, Settles, among_filter, state-append, append_nothing, orderly, Deed, Spoke, deeds_lost, Asking}
 use Rattle.promises.proofs.Words.{ToIdentify, ForConsent, AtCompletion, order_for, asks, step_for, is_asked_of, is_reply, owes_after, owes_if, owes_from, owes}
 use Rattle.promises.proofs.Words.{NobodyOwes, Step, ByGather, ByPrepare, ByComplete, progress, is_step, is_writer, choosing, Covers, after_not_enabled}
-use Rattle.promises.proofs.Words.{told_covered, some_same, by_if, none_runs, and_parts, false_from_ne_true, or_left, or_right, Course, is_member, fails_set}
+use Rattle.promises.proofs.Words.{told_covered, some_same, none_runs, and_parts, false_from_ne_true, or_left, or_right, Course, is_member, fails_set}
 use Rattle.promises.proofs.Words.{begun, answered as course_answered, stepped as course_stepped, timed as course_timed, settled, settled_if, posted, released}
 use Rattle.promises.proofs.Words.{limits_now, lost_at, members_from, has_row_failed, prepared as course_prepared, Opened, Gathered, Started, Prepared, Done}
-use Rattle.promises.proofs.Words.{Finished, Line, Provider, Replied, refused, with_room_if, put, write, reverted_as, disable, start_set, closed, pending}
-use Rattle.promises.proofs.Words.{gather, complete, stepped_as, ticked, later, new_number, has_no_volume, is_disabled, selected, is_flush, is_failed_step}
+use Rattle.promises.proofs.Words.{Finished, Line, Provider, Replied, with_room_if, put, write, reverted_as, disable, start_set, closed, pending}
+use Rattle.promises.proofs.Words.{gather, complete, stepped_as, ticked, later, new_number, is_disabled, selected, is_flush, is_failed_step}
 use Rattle.promises.proofs.Words.{unspoken, number_is, unless, is_opened, is_started, is_done_stage, filter_passes}
 use Rattle.writer_calls.specs.declared.answer.Answer.{Answer}
 use Rattle.set_agenda.specs.Course.{failed as course_failed}
@@ -24,16 +24,15 @@ use Rattle.requestor.specs.declared.session_call.SessionCall.TheVariants as call
 use Rattle.scenario.specs.declared.op.Op.TheVariants as op
 use Rattle.vss_model.specs.declared.event.Event.TheVariants.{Answer as AnswerEvent}
 use Rattle.vss_model.proofs.StateForm.{answered, stepped}
-use Rattle.vss_model.proofs.LogRule.{Running}
+use Rattle.vss_model.proofs.Rules.{Running}
 use Rattle.promises.proofs.Scripts.{kept_among}
 use Rattle.promises.proofs.Speaks.{deed_at, deed_in, said_at, Grows, made_now, lost_told, grows_answered, grows_stepped, grows_timed}
-use Rattle.promises.proofs.BusyAgendas.{course_followed}
-use Rattle.promises.proofs.CalmCourses.{calm_begun}
-use Rattle.promises.proofs.Clock.{write_ticks}
+use Rattle.promises.proofs.CourseRows.{course_followed}
+use Rattle.promises.proofs.CalmStages.{calm_begun, IsCalm, calm_kept, calm_always}
+use Rattle.promises.proofs.Moves.{write_ticks}
 use Rattle.promises.proofs.Progress.{stage_of, StandsAt, stands_all, snapshots}
 use Rattle.promises.proofs.Turns.{Turn, begun_turn, answer_turn, tick_turn, step_turn}
 use Rattle.promises.proofs.Members.{members_from_are}
-use Rattle.promises.proofs.CalmStages.{IsCalm, calm_kept, calm_always}
 use Rattle.promises.proofs.Participants.{Follows, follows_all, standing, asked_by, asked_are}
 
 abbrev p0 : Asking → Place
@@ -69,8 +68,7 @@ new_said p q said now (x ∷ ws) w e = by_head (same_place p q) (x == w) e (new_
 
 -- and what is said is told
 new_told : (g : Group) (p : Place) (said : Said) (now : ℕ) (ws : List ℕ) (w : ℕ) (test : Deed → Bool) → ((u : ℕ) → (u == w) ≡ true → test (deed_at p.group u said now) ≡ true)
-    → is_among w ws ≡ true
-    → list_any test (map deed_in (map (at_place p said now) ws)) ≡ true
+    → is_among w ws ≡ true → list_any test (map deed_in (map (at_place p said now) ws)) ≡ true
 new_told g p said now [] w test f e = absurd cc
 new_told g p said now (x ∷ ws) w test f e = by_head (x == w) refl e (new_told g p said now ws w test f) where
   by_head : (b : Bool) → (x == w) ≡ b → (b || is_among w ws) ≡ true → (is_among w ws ≡ true → list_any test (map deed_in (map (at_place p said now) ws)) ≡ true)
@@ -129,8 +127,7 @@ module _ (i : Asking) (w : ℕ) where
     Ends (Some a) b p = b ≡ None → has_failed p ≡ false → a.kind ≡ kind_for i → d ≡ false
 
     settled_waits : (done : Bool) (a : Agenda) (o : SetOutcome) (b : Option Agenda) (p : SetOutcome) → (done ≡ true → is_done (groups_left a) ≡ true) → Settles done a o b p
-        → Waits d a
-        → Running (Waits d) b × (b ≡ None → a.kind ≡ kind_for i → d ≡ false)
+        → Waits d a → Running (Waits d) b × (b ≡ None → a.kind ≡ kind_for i → d ≡ false)
     settled_waits done a o b p x5 e h = grind (arith, false_from_ne_true, both, none_waits)
 
     grows_waits : (a : Option Agenda) (o : SetOutcome) (b : Option Agenda) (p : SetOutcome) (news : List Deed) → Grows a o b p news
@@ -313,8 +310,7 @@ module _ (s : Plan) (so_far : List Act) (i : Asking) (w : ℕ) where
       goes_on = grows_waits i w c d keeps st.course.agenda st.course.outcome k.agenda k.outcome news grows untold h.running
 
       over_by : (q : Session) (a : Option Agenda) (p : Option Session) → st.course.agenda ≡ a → st.session ≡ p → is_some a ≡ true → option_map agenda_ended p ≡ Some q
-          → q.stage ≡ stage_for i → IsAgendaOf a p
-          → Ends i w c d keeps a k.agenda k.outcome → x.session ≡ Some q → runs x ≡ false → d ≡ false
+          → q.stage ≡ stage_for i → IsAgendaOf a p → Ends i w c d keeps a k.agenda k.outcome → x.session ≡ Some q → runs x ≡ false → d ≡ false
       over_by q a p e f ran ended stage waits ends own quiet = grind arith
 
       done_by : (q : Session) → x.session ≡ Some q → q.stage ≡ stage_for i → Turn st x (runs st) → d ≡ false
@@ -323,10 +319,7 @@ module _ (s : Plan) (so_far : List Act) (i : Asking) (w : ℕ) where
       done_by q f g (inr (inr t)) = false_from_ne_true d (λ e. both c (keeps e) (h.done q (sym t.session ∙ f) g))
 
       goes : Stands i w x d
-      goes = record {
-        running = subst (λ (y : Course). Running (Waits i w d) y.agenda) (sym is) goes_on.0;
-        done = λ q f g. done_by q f g turn;
-      }
+      goes = record { running = subst (λ (y : Course). Running (Waits i w d) y.agenda) (sym is) goes_on.0; done = λ q f g. done_by q f g turn }
 
     -- time
     on_ticks : (n m : ℕ) → Stands i w (ticked n st) (c && not (list_any (is_reply i w) (lost_told m (spent_of (st.clock + n) (limits_now st.course)) (left st.course.agenda))))
@@ -515,12 +508,9 @@ module _ (s : Plan) (so_far : List Act) (i : Asking) (w : ℕ) where
       starts = λ lane q mark g e. tells_none lane op.Start mark (start_set q st).0 (start_set q st).1 refl refl
           (beside (start_set q st).1 refl (λ p f k. in_stage (session_started (new_number st) q) p Started f refl (not_started i) k));
       adds = λ lane v r q mark g e f. tells_none lane (op.Add v) mark Fine _ refl refl (same _ refl refl);
-      prepares = λ lane q mark g. by_if (Next (Line lane op.Prepare) mark) (has_no_volume (in_progress st)) (refused BadState st) _
-          (tells_none lane op.Prepare mark (Coded BadState) st refl (not_asked op.Prepare (Coded BadState) (λ e. refl)) h) (on_prepares lane q mark g (asks op.Prepare i) refl);
-      snapshots = λ lane q mark g. by_if (Next (Line lane op.Snapshot) mark) (has_no_volume (in_progress st)) (refused BadState st) _ (tells_none lane op.Snapshot mark (Coded BadState) st refl refl h)
-          (begins_other lane op.Snapshot mark Snapshot st.course.members _ st.course refl refl (λ e. not_snapshot i e)
-          (begun_turn s so_far _ (calm_begun Snapshot st.course.members _ st.clock st.course))
-          (to_stage q Done g.stands (snapshots q.context q.stage g.allowed) (not_done i)));
+      prepares = λ lane q mark g f. on_prepares lane q mark g (asks op.Prepare i) refl;
+      snapshots = λ lane q mark g f. begins_other lane op.Snapshot mark Snapshot st.course.members _ st.course refl refl (λ e. not_snapshot i e)
+          (begun_turn s so_far _ (calm_begun Snapshot st.course.members _ st.clock st.course)) (to_stage q Done g.stands (snapshots q.context q.stage g.allowed) (not_done i));
       completes = λ lane q mark g. on_completes lane q mark g (asks op.Complete i) refl;
       aborts = λ lane q mark e. tells_none lane op.Abort mark Fine (failed AsyncCancelled st) refl refl (on_failed (in_progress st) AsyncCancelled st refl refl);
       ends = λ lane q mark e. tells_none lane op.End mark Fine (closed q (failed AsyncCancelled st)) refl refl (on_close q (failed AsyncCancelled st));
@@ -536,15 +526,11 @@ module _ (s : Plan) (so_far : List Act) (i : Asking) (w : ℕ) where
 -- ## every list of acts
 
 module _ (s : Plan) (i : Asking) (w : ℕ) where
-  regrouped : (xs ys : List Act) (act : Act) → (xs ++ act ∷ []) ++ ys ≡ xs ++ act ∷ ys
-  regrouped [] ys act = refl
-  regrouped (x ∷ xs) ys act = ap (λ zs. x ∷ zs) (regrouped xs ys act)
-
   stands_from : (so_far : List Act) (c : Bool) (acts : List Act) → Stands i w (state s so_far) c → Stands i w (state s (so_far ++ acts)) (owes_from i w s so_far c acts)
   stands_from so_far c [] h = subst (λ xs. Stands i w (state s xs) c) (sym (append_nothing so_far)) h
   stands_from so_far c (act ∷ acts) h =
       let d = owes_if (enabled s (state s so_far) act.event) i w s so_far act c in
-      subst (λ xs. Stands i w (state s xs) (owes_from i w s (so_far ++ act ∷ []) d acts)) (regrouped so_far acts act)
+      subst (λ xs. Stands i w (state s xs) (owes_from i w s (so_far ++ act ∷ []) d acts)) (append_assoc so_far (act ∷ []) acts)
       (stands_from (so_far ++ act ∷ []) d acts (subst (λ (x : State). Stands i w x d) (sym (state-append s so_far act)) (stands_if s so_far i w c h (enabled s (state s so_far) act.event) act refl)))
 
   stands_always : (acts : List Act) → Stands i w (state s acts) (owes i w s acts)

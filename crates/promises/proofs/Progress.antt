@@ -1,23 +1,23 @@
 -- A session stands where its accepted lines have brought it.
 use Rattle.std.proofs.Common.{◌≡◌, ◌∙◌, ℕ, List, [], ◌∷◌, ◌++◌, Option, Some, None, refl, Bool, true, false, ap, sym, subst, inl, inr, fold, arith}
-use Rattle.std.specs.Prelude.{is_some, option_map, option_and_then, if◌then◌else◌, length}
-use Rattle.promises.proofs.Words.{Context, VssResult, AsyncPending, AsyncCancelled, BadState, number_of, context_of_number, IsLookUp-context_of_number, Mark}
-use Rattle.promises.proofs.Words.{Clean, said_of, open_group, next_volume, Course, prepared, snapshot_begun, takers, Stage, Session, has_writers, makes_set}
+use Rattle.std.specs.Prelude.{is_some, option_map, option_and_then, if◌then◌else◌}
+use Rattle.promises.proofs.Words.{Context, VssResult, AsyncPending, AsyncCancelled, number_of, context_of_number, IsLookUp-context_of_number, Mark}
+use Rattle.promises.proofs.Words.{Clean, said_of, open_group, next_volume, Course, Stage, Session, has_writers, makes_set}
 use Rattle.promises.proofs.Words.{context_of, context_if, without_all, mode_of, opened, started as session_started, stage_after, agenda_ended, set_failed}
 use Rattle.promises.proofs.Words.{is_stage, Op, Target, target_of, Plan, Event, Reply, Fine, Coded, Deleted, Idled, State, SetRow, start, in_progress, left_now}
-use Rattle.promises.proofs.Words.{followed, runs, failed, Replied, refused, write, reverted_as, LetsGo, IsAgendaOf, IsOfSession, has_failed, Act}
+use Rattle.promises.proofs.Words.{followed, runs, failed, Replied, write, reverted_as, LetsGo, IsAgendaOf, IsOfSession, has_failed, Act, by_last}
 use Rattle.promises.proofs.Words.{order_of_writer, enabled, answer_reply, step_reply, idle_now, after, state, state-append, orderly, set_failure, Step, ByBegin}
 use Rattle.promises.proofs.Words.{ByGather, ByStart, ByPrepare, BySnapshot, ByComplete, ByFailure, Progress, line_brings, event_brings, lost_if, progress_after}
 use Rattle.promises.proofs.Words.{progress_if, progress_from, progress, HasItsContext, set_fails, Covers, ChangesNothing, after_not_enabled, told_covered}
-use Rattle.promises.proofs.Words.{some_same, append_nothing, and_parts, Opened, Gathered, Started, Prepared, Done, Finished, Line, Provider, Idle, selected}
-use Rattle.promises.proofs.Words.{has_no_volume, volumes_of, new_number, start_set, pending, closed, is_opened, is_started, is_done_stage}
+use Rattle.promises.proofs.Words.{some_same, and_parts, Opened, Gathered, Started, Prepared, Done, Finished, Line, Provider, Idle}
+use Rattle.promises.proofs.Words.{new_number, start_set, closed, is_opened, is_started, is_done_stage}
 use Rattle.set_agenda.specs.declared.kind.Kind.TheVariants as kind
 use Rattle.requestor.specs.declared.stage.Stage.TheVariants.{Failed}
 use Rattle.requestor.specs.declared.session_call.SessionCall.TheVariants as call
 use Rattle.scenario.specs.declared.op.Op.TheVariants as op
 use Rattle.vss_model.specs.declared.event.Event.TheVariants.{Answer as AnswerEvent}
-use Rattle.promises.proofs.CalmCourses.{calm_begun}
-use Rattle.promises.proofs.SetFailures.{failure_at}
+use Rattle.promises.proofs.CalmStages.{calm_begun}
+use Rattle.promises.proofs.Contexts.{failure_at}
 use Rattle.promises.proofs.Turns.{Turn, quiet_turn, write_turn, revert_turn, begun_turn, answer_turn, tick_turn, step_turn, abort_turn, add_turn, none_started}
 
 -- ## where a session stands
@@ -131,12 +131,6 @@ module _ (s : Plan) (so_far : List Act) (p : Progress) where
         (λ x i. subst (λ (y : Session). StandsAt y true (record p { step = to })) (some_same q x (sym f ∙ i))
         (record { context = (h q f).context; mode = (h q f).mode; stage = g })) (begun_turn s so_far c calm)
 
-    begun_if : (b : Bool) (lane : ℕ) (o : Op) (mark : Mark) (to : Step) (q : Session) (c : Course) → line_brings o (Coded BadState) p ≡ p
-        → line_brings o (Coded AsyncPending) p ≡ record p { step = to } → st.session ≡ Some q → stage_after q.context q.stage ≡ stage_of to
-        → (has_failed st.course.outcome ≡ false → has_failed c.outcome ≡ false) → Next (Line lane o) mark (if b then refused BadState st else pending c st)
-    begun_if true lane o mark to q c d e f g calm = quiet (Line lane o) (Coded BadState) st d refl (λ n. refl) refl
-    begun_if false lane o mark to q c d e f g calm = on_begun lane o to q c e f g calm
-
     on_close : (event : Event) (told : Reply) (q : Session) (x : State) → Stands (closed q x) (progress_after st event told (closed q x) p)
     unfolding closed
     on_close event told q x own e = absurd cc
@@ -187,11 +181,9 @@ module _ (s : Plan) (so_far : List Act) (p : Progress) where
       names = λ lane w full q explicit mark g named. quiet (Line lane (op.Component w full)) Fine _ refl refl (λ m. refl) refl;
       starts = λ lane q mark g e. on_start lane q g e;
       adds = λ lane v r q mark g e f. goes (Line lane (op.Add v)) Fine _ refl (add_turn s so_far v r);
-      prepares = λ lane q mark g. let may = and_parts (is_stage q.stage Started) (has_writers q.context) g.allowed in
-          begun_if (has_no_volume (in_progress st)) lane op.Prepare mark ByPrepare q (prepared (takers (length s.writers) (selected s q st)) st.clock st.course) refl refl g.stands
-          (ap (stage_after q.context) (is_started q.stage may.0) ∙ prepares q.context may.1) (calm_begun kind.Prepare _ [] st.clock _);
-      snapshots = λ lane q mark g. begun_if (has_no_volume (in_progress st)) lane op.Snapshot mark BySnapshot q
-          (snapshot_begun (volumes_of (in_progress st)) st.clock st.course) refl refl g.stands (snapshots q.context q.stage g.allowed)
+      prepares = λ lane q mark g f. let may = and_parts (is_stage q.stage Started) (has_writers q.context) g.allowed in
+          on_begun lane op.Prepare ByPrepare q _ refl g.stands (ap (stage_after q.context) (is_started q.stage may.0) ∙ prepares q.context may.1) (calm_begun kind.Prepare _ [] st.clock _);
+      snapshots = λ lane q mark g f. on_begun lane op.Snapshot BySnapshot q _ refl g.stands (snapshots q.context q.stage g.allowed)
           (calm_begun kind.Snapshot st.course.members _ st.clock st.course);
       completes = λ lane q mark g. on_begun lane op.Complete ByComplete q _ refl g.stands
           (ap (stage_after q.context) (is_done_stage q.stage (and_parts (is_stage q.stage Done) (has_writers q.context) g.allowed).0))
@@ -224,15 +216,8 @@ stands_next s so_far act h =
     (sym (progress_from-append s (start s) (record { context = 0; all = false; step = ByBegin }) so_far act))
     (stands_if s so_far (progress s so_far) h (enabled s (state s so_far) act.event) act refl))
 
-stands_from : (s : Plan) (so_far acts : List Act) → StandsSo s so_far → StandsSo s (so_far ++ acts)
-stands_from s so_far [] h = subst (StandsSo s) (sym (append_nothing so_far)) h
-stands_from s so_far (act ∷ acts) h = subst (StandsSo s) (regrouped so_far acts) (stands_from s (so_far ++ act ∷ []) acts (stands_next s so_far act h)) where
-  regrouped : (xs ys : List Act) → (xs ++ act ∷ []) ++ ys ≡ xs ++ act ∷ ys
-  regrouped [] ys = refl
-  regrouped (x ∷ xs) ys = ap (λ zs. x ∷ zs) (regrouped xs ys)
-
 pub stands_all : (s : Plan) (so_far : List Act) → StandsSo s so_far
-stands_all s so_far = stands_from s [] so_far (λ own e. absurd cc)
+stands_all s so_far = by_last (StandsSo s) (stands_next s) (λ own e. absurd cc) so_far
 
 pub has_its_context : (s : Plan) (so_far : List Act) → HasItsContext s so_far
 has_its_context s so_far q e = (stands_all s so_far q e).context

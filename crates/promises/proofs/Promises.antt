@@ -3,45 +3,32 @@ use Rattle.promises.proofs.Words.{Move, Plan, IsAsPromised}
 use Rattle.std.proofs.Common.{List}
 use Rattle.promises.proofs.Accepted.{accepts_in_order}
 use Rattle.promises.proofs.Answers.{answers_say}
-use Rattle.promises.proofs.Asked.{asks_its_own}
-use Rattle.promises.proofs.Awaited.{await_tells}
-use Rattle.promises.proofs.Calls.{calls_are_owned, waits_are_few, waits_are_due, stands_quiet, frozen_do_not_write}
-use Rattle.promises.proofs.Clock.{clock_moves}
-use Rattle.promises.proofs.Closing.{closes_as_kept}
+use Rattle.promises.proofs.Asked.{asks_its_own, completes_unfailed}
+use Rattle.promises.proofs.LastResult.{await_tells}
+use Rattle.promises.proofs.Moves.{calls_are_owned, waits_are_few, waits_are_due, stands_quiet, frozen_do_not_write, clock_moves, idles_shortest, marks_are_due}
+use Rattle.promises.proofs.Moves.{refusals_change_nothing}
+use Rattle.promises.proofs.Replies.{closes_as_kept, tells_the_end, replies_tell}
 use Rattle.promises.proofs.Codes.{fails_by_code}
-use Rattle.promises.proofs.Completing.{completes_unfailed}
-use Rattle.promises.proofs.Contents.{contents_change}
-use Rattle.promises.proofs.ContextZero.{backups_end}
-use Rattle.promises.proofs.Copies.{copies_hold}
-use Rattle.promises.proofs.CutStep.{cuts_at_the_step}
-use Rattle.promises.proofs.Done.{is_done}
-use Rattle.promises.proofs.Ended.{tells_the_end}
+use Rattle.promises.proofs.Contents.{contents_change, copies_hold}
+use Rattle.promises.proofs.ContextZero.{backups_end, is_done}
+use Rattle.promises.proofs.CutTimes.{cuts_at_the_step, properties_tell}
 use Rattle.promises.proofs.Evicted.{tells_evicted}
-use Rattle.promises.proofs.Idle.{idles_shortest}
 use Rattle.promises.proofs.Images.{images_go_for_cause}
-use Rattle.promises.proofs.InTurn.{steps_in_turn}
-use Rattle.promises.proofs.Kept.{finds_the_kept}
+use Rattle.promises.proofs.Once.{steps_in_turn}
+use Rattle.promises.proofs.Refusals.{finds_the_kept, refuses_for_cause}
 use Rattle.promises.proofs.KeptCopies.{keeps_copies}
 use Rattle.promises.proofs.Levels.{has_its_numbers}
 use Rattle.promises.proofs.Lost.{loses_the_late}
-use Rattle.promises.proofs.Marks.{marks_are_due}
-use Rattle.promises.proofs.OwnSlots.{writes_fail_for_slots}
-use Rattle.promises.proofs.Participants.{chosen_take_part}
-use Rattle.promises.proofs.Prepares.{takes_part}
+use Rattle.promises.proofs.Failing.{writes_fail_for_slots}
+use Rattle.promises.proofs.Participants.{chosen_take_part, takes_part}
 use Rattle.promises.proofs.Progress.{has_its_context}
-use Rattle.promises.proofs.Properties.{properties_tell}
-use Rattle.promises.proofs.Refusals.{refuses_for_cause}
-use Rattle.promises.proofs.Refused.{refusals_change_nothing}
-use Rattle.promises.proofs.Replies.{replies_tell}
 use Rattle.promises.proofs.RowChanges.{rows_change}
 use Rattle.promises.proofs.Scripts.{answers_by_script}
-use Rattle.promises.proofs.SetRows.{keeps_rows}
-use Rattle.promises.proofs.Sets.{volumes_are_distinct}
+use Rattle.promises.proofs.SetRows.{keeps_rows, volumes_are_distinct}
 use Rattle.promises.proofs.Slots.{slots_suffice}
-use Rattle.promises.proofs.Stills.{stands_still}
-use Rattle.promises.proofs.Unanswered.{orders_end}
+use Rattle.promises.proofs.Times.{stands_still}
+use Rattle.promises.proofs.Within.{orders_end, stands_within_limits}
 use Rattle.promises.proofs.Whole.{complete_by_the_way}
-use Rattle.promises.proofs.Within.{stands_within_limits}
 use Rattle.promises.proofs.Documents.{tells_document}
 use Rattle.promises.proofs.Owing.{nobody_owes}
 

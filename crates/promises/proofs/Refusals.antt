@@ -1,17 +1,131 @@
--- What a session call is answered that is not accepted.
-use Rattle.promises.proofs.Words.{bytes_eq, BadState, UnsupportedContext, SnapshotSetInProgress, ObjectAlreadyExists, MaximumNumberOfVolumesReached, MaximumNumberOfSnapshotsReached, Mark}
-use Rattle.promises.proofs.Words.{Part, Meta, full_name, is_among, Pair, has_pair, found_from, naming_if, naming_found, naming_of, Mode, SessionCall, Started, Session, has_writers, makes_set, mode_of}
-use Rattle.promises.proofs.Words.{check, check_other, owner_only, verdict_of, allows, is_stage, goes_beside_agenda, is_start, is_await, Op, Plan, token, Line}
-use Rattle.promises.proofs.Words.{Reply, Coded, NotSelectable, State, SetRow, in_progress, history_of, runs, Replied, known_metas, named_as, component_in, most_volumes, most_images, add_to}
-use Rattle.promises.proofs.Words.{add, has_no_volume, judged, line_in, session_line, Act, happens, state, owns, is_fine, is_ordered, is_accepted, ByBegin, ByGather, ByStart, BySnapshot, Progress}
-use Rattle.promises.proofs.Words.{progress, is_step, asks_writers, comes_now, name_refusal_in, name_refusal, place_refusal, want_refusal, order_refusal, RefusesForCause}
-use Rattle.std.proofs.Common.{◌≡◌, ◌∙◌, ℕ, ◌+◌, ◌==◌, List, [], ◌∷◌, Option, Some, None, refl, Bool, true, false, ap, sym, subst, length, arith}
-use Rattle.std.specs.Prelude.{◌&&◌, ◌||◌, not, nat_le, nat_lt, is_some, is_none, slice_get, if◌then◌else◌}
+-- What a session call is answered that is not accepted, and by which images lines are.
+use Rattle.std.proofs.Common.{◌≡◌, ◌∙◌, ℕ, ◌+◌, ◌==◌, ◌<◌, zero, suc, List, [], ◌∷◌, Option, Some, None, refl, Bool, true, false, ap, sym, find, arith, subst}
+use Rattle.std.proofs.Common.{length}
+use Rattle.std.specs.Prelude.{◌&&◌, ◌||◌, nat_lt, is_some, if◌then◌else◌, not, nat_le, is_none, slice_get}
 use Rattle.requestor.specs.declared.session_call.SessionCall.TheVariants as call
 use Rattle.scenario.specs.declared.op.Op.TheVariants as op
 use Rattle.vss_model.proofs.StateForm.{called}
-use Rattle.promises.proofs.Accepted.{allowed_in, same_stage, start_stage, either_stage, writers_asked, makes_its_set, line_reply}
+use Rattle.promises.proofs.Accepted.{line_reply, allowed_in, same_stage, start_stage, either_stage, writers_asked, makes_its_set}
 use Rattle.promises.proofs.Progress.{stage_of, StandsAt, stands_all}
+use Rattle.promises.proofs.Words.{ObjectNotFound, UnsupportedContext, SnapshotSetInProgress, Mark, History, point_in, Plan, Line, Coded, Deleted, State, SetRow}
+use Rattle.promises.proofs.Words.{Kept, is_complete, in_progress, row_of, history_of, has_image, kept_of, kept_image, NumberedFrom, Act, state, orderly}
+use Rattle.promises.proofs.Words.{has_complete, at, is_kept, is_of_backup, has_in_it, revert_answer, is_deleted, FindsTheKept, and_parts, is_backup, is_in_set}
+use Rattle.promises.proofs.Words.{revert_refusal, count_images, revert_to, revert, delete_set, delete_kept, delete_image, none_below, bytes_eq, BadState}
+use Rattle.promises.proofs.Words.{ObjectAlreadyExists, MaximumNumberOfVolumesReached, MaximumNumberOfSnapshotsReached, Part, Meta, full_name, is_among, Pair}
+use Rattle.promises.proofs.Words.{has_pair, found_from, naming_if, naming_found, naming_of, Mode, SessionCall, Started, Session, has_writers, makes_set}
+use Rattle.promises.proofs.Words.{mode_of, check, check_other, owner_only, verdict_of, allows, is_stage, goes_beside_agenda, is_start, is_await, Op, token}
+use Rattle.promises.proofs.Words.{Reply, NotSelectable, runs, Replied, known_metas, named_as, component_in, most_volumes, most_images, add_to, add}
+use Rattle.promises.proofs.Words.{has_no_volume, judged, line_in, session_line, happens, owns, is_fine, is_ordered, is_accepted, ByBegin, ByGather, ByStart}
+use Rattle.promises.proofs.Words.{BySnapshot, Progress, progress, is_step, asks_writers, comes_now, name_refusal_in, name_refusal, place_refusal, want_refusal}
+use Rattle.promises.proofs.Words.{order_refusal, RefusesForCause}
+
+-- ## Lines find exactly the images that are kept, and a revert and a deletion are answered by that.
+
+-- ## the row of a set
+
+abbrev row_complete : Option SetRow → Bool
+row_complete None = false
+row_complete (Some r) = is_complete r.result
+
+complete_is : (k n : ℕ) (rows : List SetRow) → NumberedFrom k rows → has_complete rows n ≡ row_complete (find (λ (r : SetRow). r.number == n) rows)
+complete_is k n [] num = refl
+complete_is k n (r ∷ rows) num = by_head (r.number == n) refl (complete_is (k + 1) n rows num.1) where
+  or_off : (a b : Bool) → b ≡ false → (a || b) ≡ a
+  or_off true b e = refl
+  or_off false b e = e
+
+  below : (a b c : ℕ) → (a == b) ≡ true → a ≡ c → b < c + 1
+  below a b c e f = grind arith
+
+  by_head : (b : Bool) → (r.number == n) ≡ b → has_complete rows n ≡ row_complete (find (λ (x : SetRow). x.number == n) rows)
+      → ((b && is_complete r.result) || has_complete rows n) ≡ row_complete (if b then Some r else find (λ (x : SetRow). x.number == n) rows)
+  by_head true e ih = or_off (is_complete r.result) (has_complete rows n) (none_below (k + 1) n rows num.1 (below r.number n k e num.0))
+  by_head false e ih = ih
+
+module _ (s : Plan) (so_far : List Act) where
+  abbrev st_kept : State
+  st_kept = state s so_far
+
+  kept_by : (o : Option SetRow) (p : Option ℕ) → is_some (kept_of o p) ≡ (row_complete o && is_some p)
+  kept_by o p = grind arith
+
+  found : (n v : ℕ) → is_some (kept_image st_kept n v) ≡ is_kept st_kept n v
+  found n v = kept_by (row_of st_kept n) (point_in n (history_of st_kept v).images) ∙ ap (λ b. b && is_some (point_in n (history_of st_kept v).images)) (sym (complete_is 1 n st_kept.sets (orderly s so_far).numbered))
+
+  -- ## reverts
+
+  busy_is : (v : ℕ) (o : Option SetRow) → is_in_set v o ≡ has_in_it v o
+  busy_is v o = grind arith
+
+  by_refusal : (v : ℕ) (k : Kept) (mark : Mark) (a b : Bool)
+      → (revert_to s v (if a then Some UnsupportedContext else if b then Some SnapshotSetInProgress else None) (Some k) mark st_kept).0 ≡ revert_answer true a b mark
+  by_refusal v k mark a b = grind arith
+
+  -- the row of a kept image is its set's
+  row_kept : (o : Option SetRow) (p : Option ℕ) (k : Kept) → kept_of o p ≡ Some k → is_backup k.row.context ≡ is_of_backup o
+  row_kept o p k e = grind arith
+
+  revert_says : (n v : ℕ) (mark : Mark) → (revert s n v mark st_kept).0 ≡ revert_answer (is_kept st_kept n v) (is_of_backup (row_of st_kept n)) (has_in_it v (in_progress st_kept)) mark
+  unfolding revert
+  revert_says n v mark = by_kept (kept_image st_kept n v) refl where
+    by_kept : (o : Option Kept) → kept_image st_kept n v ≡ o → (revert_to s v (revert_refusal v (kept_image st_kept n v) st_kept) (kept_image st_kept n v) mark st_kept).0
+        ≡ revert_answer (is_kept st_kept n v) (is_of_backup (row_of st_kept n)) (has_in_it v (in_progress st_kept)) mark
+    by_kept None e =
+        ap (λ o. (revert_to s v (revert_refusal v o st_kept) o mark st_kept).0) e
+        ∙ ap (λ b. revert_answer b (is_of_backup (row_of st_kept n)) (has_in_it v (in_progress st_kept)) mark) (sym (sym (found n v) ∙ ap is_some e))
+    by_kept (Some k) e =
+        ap (λ o. (revert_to s v (revert_refusal v o st_kept) o mark st_kept).0) e
+        ∙ by_refusal v k mark (is_backup k.row.context) (is_in_set v (in_progress st_kept))
+        ∙ ap (λ b. revert_answer true b (is_in_set v (in_progress st_kept)) mark) (row_kept (row_of st_kept n) (point_in n (history_of st_kept v).images) k e)
+        ∙ ap (λ b. revert_answer true (is_of_backup (row_of st_kept n)) b mark) (busy_is v (in_progress st_kept))
+        ∙ ap (λ b. revert_answer b (is_of_backup (row_of st_kept n)) (has_in_it v (in_progress st_kept)) mark) (sym (sym (found n v) ∙ ap is_some e))
+
+  -- ## deletions
+
+  some_counted : (n v : ℕ) (hs : List History) → has_image n (at hs v) ≡ true → nat_lt 0 (count_images n hs) ≡ true
+  some_counted n zero [] e = absurd cc
+  some_counted n (suc v) [] e = absurd cc
+  some_counted n zero (h ∷ hs) e = ap (λ b. nat_lt 0 ((if b then 1 else 0) + count_images n hs)) e ∙ positive (count_images n hs) where
+    positive : (k : ℕ) → nat_lt 0 (1 + k) ≡ true
+    positive k = grind arith
+  some_counted n (suc v) (h ∷ hs) e = more (if has_image n h then 1 else 0) (count_images n hs) (some_counted n v hs e) where
+    more : (a k : ℕ) → nat_lt 0 k ≡ true → nat_lt 0 (a + k) ≡ true
+    more a k e = grind arith
+
+  none_counted : (n : ℕ) (hs : List History) → ((v : ℕ) → has_image n (at hs v) ≡ false) → nat_lt 0 (count_images n hs) ≡ false
+  none_counted n [] h = refl
+  none_counted n (x ∷ hs) h = ap (λ b. nat_lt 0 ((if b then 1 else 0) + count_images n hs)) (h 0) ∙ same (count_images n hs) ∙ none_counted n hs (λ v. h (suc v))
+    where
+      same : (k : ℕ) → nat_lt 0 (0 + k) ≡ nat_lt 0 k
+      same k = grind arith
+
+  set_goes : (n v : ℕ) → is_kept st_kept n v ≡ true → is_deleted (delete_set n st_kept).0 ≡ true
+  unfolding delete_set
+  set_goes n v e = grind (arith, and_parts, some_counted)
+
+  no_set : (n : ℕ) → ((v : ℕ) → is_kept st_kept n v ≡ false) → (delete_set n st_kept).0 ≡ Coded ObjectNotFound
+  unfolding delete_set
+  no_set n h = grind (arith, none_counted)
+
+  image_says : (n v : ℕ) → (delete_image n v st_kept).0 ≡ (if is_kept st_kept n v then Deleted 1 else Coded ObjectNotFound)
+  unfolding delete_image
+  image_says n v = by_kept (kept_image st_kept n v) ∙ ap (λ b. if b then Deleted 1 else Coded ObjectNotFound) (found n v) where
+    by_kept : (o : Option Kept) → (delete_kept v o st_kept).0 ≡ (if is_some o then Deleted 1 else Coded ObjectNotFound)
+    by_kept None = refl
+    by_kept (Some k) = refl
+
+pub finds_the_kept : (s : Plan) (so_far : List Act) (act : Act) → FindsTheKept s so_far act
+finds_the_kept s so_far act =
+    let told = line_reply s (state s so_far) act in
+    record {
+      found = found s so_far;
+      reverts = λ lane n v e. told (Line lane (op.Revert n v)) e ∙ revert_says s so_far n v act.mark;
+      set_goes = λ lane n v e f. ap is_deleted (told (Line lane (op.DeleteSet n)) e) ∙ set_goes s so_far n v f;
+      no_set = λ lane n e f. told (Line lane (op.DeleteSet n)) e ∙ no_set s so_far n f;
+      image = λ lane n v e. told (Line lane (op.DeleteImage n v)) e ∙ image_says s so_far n v;
+    }
+
+-- ## What a session call is answered that is not accepted.
 
 -- ## what a call wants
 
@@ -94,8 +208,7 @@ module _ (s : Plan) (so_far : List Act) (lane : ℕ) where
   none_called c o e same = ap (λ v. (judged v s lane o st).0) (same ∙ ap (λ x. check_other x (runs st) lane c) e)
 
   parts : (own start busy may comes : Bool) (answer want order : Reply) → (busy ≡ false → (not start && may) ≡ comes) → (start ≡ true → order ≡ Coded SnapshotSetInProgress)
-      → (start ≡ false → order ≡ Coded BadState)
-      → (is_accepted answer ≡ false → answer ≡ want) → is_accepted (checked own start busy may answer) ≡ false
+      → (start ≡ false → order ≡ Coded BadState) → (is_accepted answer ≡ false → answer ≡ want) → is_accepted (checked own start busy may answer) ≡ false
       → checked own start busy may answer ≡ (if not own then Coded BadState else if not busy && comes then want else order)
   parts own start busy may comes answer want order f g h k e = grind arith
 
@@ -127,8 +240,7 @@ module _ (s : Plan) (so_far : List Act) (lane : ℕ) where
 
   -- a call that is no `start`
   other_call : (c : SessionCall) (o : Op) → check st.session (runs st) lane c ≡ check_other st.session (runs st) lane c → goes_beside_agenda c ≡ false → is_await c ≡ false
-      → is_start c ≡ false
-      → allowed_in (asks_writers p) (stage_of p.step) c ≡ comes_now p o → order_refusal o (in_progress st) ≡ Coded BadState
+      → is_start c ≡ false → allowed_in (asks_writers p) (stage_of p.step) c ≡ comes_now p o → order_refusal o (in_progress st) ≡ Coded BadState
       → ((q : Session) → q.mode ≡ mode_of p.all → is_accepted (session_line s lane o q st).0 ≡ false → (session_line s lane o q st).0 ≡ want_refusal s st p o)
       → is_accepted (called c s lane o st).0 ≡ false → (called c s lane o st).0 ≡ Told st.session o
   other_call c o same beside waits other order bad wants e = grind (arith, refused_call)

@@ -1,11 +1,17 @@
--- Replies tell what stands.
-use Rattle.std.proofs.Common.{◌≡◌, ◌∙◌, ℕ, ◌==◌, List, [], ◌∷◌, Option, Some, None, refl, Bool, true, false, ap, sym, map, filter, arith}
-use Rattle.std.specs.Prelude.{◌&&◌, ◌||◌, is_some, if◌then◌else◌}
+-- Replies and closing lines tell what stands, and the set that ends is told.
+use Rattle.std.proofs.Common.{◌≡◌, ◌∙◌, ℕ, ◌==◌, List, [], ◌∷◌, Option, Some, None, refl, Bool, true, false, ap, sym, map, filter, arith, length, ◌+◌, ◌≤◌}
+use Rattle.std.proofs.Common.{◌++◌, subst}
+use Rattle.std.specs.Prelude.{◌&&◌, ◌||◌, is_some, if◌then◌else◌, not, find}
+use Rattle.promises.specs.Replies.{ClosesAsKept}
+use Rattle.promises.specs.Ends.{TellsTheEnd}
+use Rattle.promises.proofs.Participants.{off}
 use Rattle.promises.proofs.Words.{range_with_len, Mark, Clean, Image, AreLater, AreInTime, content, point_in, sets_of, is_among, Op, Read, ImageDigest}
 use Rattle.promises.proofs.Words.{ImageBlock, Query, Plan, blocks_of, Line, BlockOf, BlocksOf, State, SetRow, Kept, history_of, is_kept_set, kept, kept_of}
 use Rattle.promises.proofs.Words.{kept_image, image_block, image_blocks, line, Act, happens, reply_is, reply, state, ReadsAsAtTheCut, reads_as_at_cut}
-use Rattle.promises.proofs.Words.{block_now, images_in_time, IsBelow, AreRising, TellsTheCut, RepliesTell, Fault, Faulted, number_is}
-use Rattle.promises.proofs.Participants.{off}
+use Rattle.promises.proofs.Words.{block_now, images_in_time, IsBelow, AreRising, TellsTheCut, RepliesTell, Fault, Faulted, number_is, Write, copies_of, copy_of}
+use Rattle.promises.proofs.Words.{length-map, named, used, length-append, is_running, NumberedFrom, after, orderly, some_same, ended_of, state-append}
+
+-- ## Replies tell what stands.
 
 -- ## the point of a kept image
 
@@ -52,9 +58,7 @@ listed st n (i ∷ images) = by_head (i.set == n) (is_kept_set st i.set) (is_kep
   by_head true true b e f g ih =
       let kept_too : is_kept_set st n ≡ true = ap (is_kept_set st) (sym (number_is i.set n e)) ∙ f in
       rw f (rw kept_too (among true (sets_of (filter (λ j. is_kept_set st j.set) images)) e ∙ sym (point true e)))
-  by_head true false b e f g ih =
-      let not_kept : is_kept_set st n ≡ false = ap (is_kept_set st) (sym (number_is i.set n e)) ∙ f in
-      rw f (ih ∙ rw not_kept refl)
+  by_head true false b e f g ih = let not_kept : is_kept_set st n ≡ false = ap (is_kept_set st) (sym (number_is i.set n e)) ∙ f in rw f (ih ∙ rw not_kept refl)
   by_head false true b e f g ih =
       rw f (among false (sets_of (filter (λ j. is_kept_set st j.set) images)) e ∙ ih ∙ ap (λ x. is_kept_set st n && x) (sym (point false e)))
   by_head false false b e f g ih = rw f (ih ∙ ap (λ x. is_kept_set st n && x) (sym (point false e)))
@@ -115,4 +119,70 @@ replies_tell s so_far act =
         exactly = λ n. listed st n (history_of st v).images;
         in_order = rising_listed (λ i. is_kept_set st i.set) _ (history_of st v).images (images_in_time s so_far v);
       };
+    }
+
+-- ## The slots and the images of the closing lines.
+
+as_many : (k n : ℕ) (ws : List Write) (images : List Image) → used n ws images ≡ length (copies_of k n ws images)
+as_many k n ws [] = refl
+as_many k n ws (i ∷ newer) =
+    let rest = as_many k n ws newer in
+    let both = length-append (map (copy_of k ws i) (named n ws i newer)) (copies_of k n ws newer) in
+    let own = length-map (named n ws i newer) (copy_of k ws i) in
+    omega arith
+
+abbrev asked : ℕ → Act
+asked v = record { event = Line 0 (Query v); mark = Clean }
+
+pub closes_as_kept : (s : Plan) (so_far : List Act) → ClosesAsKept s so_far
+closes_as_kept s so_far = record { slots = λ v k. as_many k _ _ _; images = λ v. (replies_tell s so_far (asked v)).sets 0 v refl }
+
+-- ## The set that ends is told, and no other.
+
+abbrev is_over : ℕ → SetRow → Bool
+is_over n q = (q.number == n) && not (is_running q.result)
+
+-- the row of the set is over
+row_over : (n : ℕ) (q : SetRow) (rows : List SetRow) → find (λ (r : SetRow). r.number == n) rows ≡ Some q → is_running q.result ≡ false → find (is_over n) rows ≡ Some q
+row_over n q [] e f = absurd cc
+row_over n q (r ∷ rows) e f = by_head (r.number == n) e (λ g. row_over n q rows g f) where
+  by_head : (b : Bool) → (if b then Some r else find (λ (x : SetRow). x.number == n) rows) ≡ Some q → (find (λ (x : SetRow). x.number == n) rows ≡ Some q → find (is_over n) rows ≡ Some q)
+      → (if b && not (is_running r.result) then Some r else find (is_over n) rows) ≡ Some q
+  by_head true e ih =
+      let same = some_same r q e in
+      ap (λ c. if not c then Some r else find (is_over n) rows) (ap (λ (x : SetRow). is_running x.result) same ∙ f) ∙ e
+  by_head false e ih = ih e
+
+-- no row of a higher number is that of set n
+none_above : (n k : ℕ) (rows : List SetRow) → NumberedFrom k rows → n + 1 ≤ k → find (is_over n) rows ≡ None
+none_above n k [] h l = refl
+none_above n k (r ∷ rows) h l =
+    ap (λ b. if b && not (is_running r.result) then Some r else find (is_over n) rows) (other r.number n k h.0 l) ∙ none_above n (k + 1) rows h.1 (omega arith)
+  where
+    other : (m n k : ℕ) → m ≡ k → n + 1 ≤ k → (m == n) ≡ false
+    other m n k e l = grind arith
+
+-- the row of the set is not over
+row_runs : (n k : ℕ) (q : SetRow) (rows : List SetRow) → NumberedFrom k rows → find (λ (r : SetRow). r.number == n) rows ≡ Some q → is_running q.result ≡ true → find (is_over n) rows ≡ None
+row_runs n k q [] h e f = absurd cc
+row_runs n k q (r ∷ rows) h e f = by_head (r.number == n) refl e (λ g. row_runs n (k + 1) q rows h.1 g f) where
+  by_head : (b : Bool) → (r.number == n) ≡ b → (if b then Some r else find (λ (x : SetRow). x.number == n) rows) ≡ Some q
+      → (find (λ (x : SetRow). x.number == n) rows ≡ Some q → find (is_over n) rows ≡ None)
+      → (if b && not (is_running r.result) then Some r else find (is_over n) rows) ≡ None
+  by_head true g e ih =
+      let same = some_same r q e in
+      let is : r.number ≡ n = number_is r.number n g in
+      let first = h.0 in
+      ap (λ c. if not c then Some r else find (is_over n) rows) (ap (λ (x : SetRow). is_running x.result) same ∙ f) ∙ none_above n (k + 1) rows h.1 (omega arith)
+  by_head false g e ih = ih e
+
+pub tells_the_end : (s : Plan) (so_far : List Act) (act : Act) → TellsTheEnd s so_far act
+tells_the_end s so_far act =
+    let st = state s so_far in
+    let later = after s st act in
+    record {
+      over = λ r q e f g. ap (λ o. ended_of o later.sets) e ∙ row_over r.number q later.sets f g;
+      goes_on = λ r q e f g. ap (λ o. ended_of o later.sets) e
+          ∙ row_runs r.number 1 q later.sets (subst (λ (x : State). NumberedFrom 1 x.sets) (state-append s so_far act) (orderly s (so_far ++ act ∷ [])).numbered) f g;
+      no_other = λ e. ap (λ o. ended_of o later.sets) e;
     }

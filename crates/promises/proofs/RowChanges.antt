@@ -1,20 +1,19 @@
 -- A writer's row changes by what is said, by its set's failure, by `gather` and by `end`, and by nothing else.
 use Rattle.std.proofs.Common.{◌≡◌, ◌∙◌, ℕ, ◌+◌, List, [], ◌∷◌, Option, Some, None, refl, Bool, true, false, ap, sym, subst, inl, inr, map, arith}
 use Rattle.std.specs.Prelude.{◌&&◌, is_some, find, ◌==◌, if◌then◌else◌}
-use Rattle.promises.proofs.Words.{SetOutcome, VssResult, InsufficientStorage, AsyncCancelled, AsyncPending, BadState, WriterState, Order, Said, WriterRow}
-use Rattle.promises.proofs.Words.{is_failed, after_ok, failed_at, stable_again, row_after, row_aborted, row_ended, row_gathered, one_more, Mark, Clean, Fault}
-use Rattle.promises.proofs.Words.{FaultAfter, Write, said_of, Group, Orders, Gather, Prepare, Snapshot, Complete, Open, open_group, open_order, next_volume}
-use Rattle.promises.proofs.Words.{order_of, order_if, order_now, is_among, is_asked, is_orders, is_working, waits_now, Running as RunningLimit, spent_of}
-use Rattle.promises.proofs.Words.{Session, Op, Target, target_of, Plan, Event, State, SetRow, Kept, is_running, in_progress, left_now, row_of, row_settled}
-use Rattle.promises.proofs.Words.{followed, runs, failed_in, failed, Reply, Fine, Coded, Deleted, Idled, line_ticks, Act, order_of_writer, answer_reply}
-use Rattle.promises.proofs.Words.{step_reply, idle_now, after, state, is_refused, is_late, is_fault, is_flush_step, loses_own_image, gives_cause, NumberedFrom}
-use Rattle.promises.proofs.Words.{has_failed, IsFailed, outcome_is_running, orderly, running_found, row_running, row_fails, set_fails, row_said, at_rest}
-use Rattle.promises.proofs.Words.{row_told, row_asked, row_over, state_at_ok, state_at_failure, speaks, said_by, asks_anew, ends_session, row_by, row_next}
-use Rattle.promises.proofs.Words.{RowsChange, Covers, ChangesNothing, told_covered, by_if, and_parts, false_from_ne_true, Lost, Course, posted, released}
-use Rattle.promises.proofs.Words.{row_if, limits_now, lost_at, is_member, is_decisive, answered as course_answered, stepped as course_stepped}
-use Rattle.promises.proofs.Words.{timed as course_timed, Line, Provider, Idle, set_loses_image, Replied, refused, cleared, with_room_if, put, write}
-use Rattle.promises.proofs.Words.{reverted_as, disable, start_set, closed, end_session, step_made, stepped_as, ticked, later, has_no_volume, is_flush}
-use Rattle.promises.proofs.Words.{is_failed_step, number_is, or-false, true_not_false}
+use Rattle.promises.proofs.Words.{SetOutcome, VssResult, InsufficientStorage, AsyncCancelled, AsyncPending, WriterState, Order, Said, WriterRow, is_failed}
+use Rattle.promises.proofs.Words.{after_ok, failed_at, stable_again, row_after, row_aborted, row_ended, row_gathered, one_more, Mark, Clean, Fault, FaultAfter}
+use Rattle.promises.proofs.Words.{Write, said_of, Group, Orders, Gather, Prepare, Snapshot, Complete, Open, open_group, open_order, next_volume, order_of}
+use Rattle.promises.proofs.Words.{order_if, order_now, is_among, is_asked, is_orders, is_working, waits_now, Running as RunningLimit, spent_of, Session, Op}
+use Rattle.promises.proofs.Words.{Target, target_of, Plan, Event, State, SetRow, Kept, is_running, in_progress, left_now, row_of, row_settled, followed, runs}
+use Rattle.promises.proofs.Words.{failed_in, failed, Reply, Fine, Coded, Deleted, Idled, line_ticks, Act, order_of_writer, answer_reply, step_reply, idle_now}
+use Rattle.promises.proofs.Words.{after, state, is_refused, is_late, is_fault, is_flush_step, loses_own_image, gives_cause, NumberedFrom, has_failed, IsFailed}
+use Rattle.promises.proofs.Words.{outcome_is_running, orderly, running_found, row_running, row_fails, set_fails, row_said, at_rest, row_told, row_asked}
+use Rattle.promises.proofs.Words.{row_over, state_at_ok, state_at_failure, speaks, said_by, asks_anew, ends_session, row_by, row_next, RowsChange, Covers}
+use Rattle.promises.proofs.Words.{ChangesNothing, told_covered, and_parts, false_from_ne_true, Lost, Course, posted, released, row_if, limits_now, lost_at}
+use Rattle.promises.proofs.Words.{is_member, is_decisive, answered as course_answered, stepped as course_stepped, timed as course_timed, Line, Provider, Idle}
+use Rattle.promises.proofs.Words.{set_loses_image, Replied, cleared, with_room_if, put, write, reverted_as, disable, start_set, closed, end_session, step_made}
+use Rattle.promises.proofs.Words.{stepped_as, ticked, later, is_flush, is_failed_step, number_is, or-false, true_not_false}
 use Rattle.vss_names.specs.declared.set_outcome.SetOutcome.TheVariants.{Running as RunningSet}
 use Rattle.writer_calls.specs.declared.answer.Answer.{Answer}
 use Rattle.set_agenda.specs.Course.{failed as course_failed}
@@ -22,8 +21,7 @@ use Rattle.scenario.specs.declared.op.Op.TheVariants as op
 use Rattle.vss_model.specs.declared.event.Event.TheVariants.{Answer as AnswerEvent}
 use Rattle.vss_model.proofs.StateForm.{answered, stepped}
 use Rattle.promises.proofs.CourseRows.{Becomes, as_it_is, and_told, same_rows, rows_map_are, rise_failed, stay_begun, say_to, refuses, comes_answered, Comes}
-use Rattle.promises.proofs.CourseRows.{stay_stepped, rise_stepped, lost_by, PassesOrFails, over_timed}
-use Rattle.promises.proofs.BusyAgendas.{IsBusy, busy_order, busy_step, busy_set, course_followed}
+use Rattle.promises.proofs.CourseRows.{stay_stepped, rise_stepped, lost_by, PassesOrFails, over_timed, IsBusy, busy_order, busy_step, busy_set, course_followed}
 use Rattle.promises.proofs.Failing.{fails_for_cause, same_consent, same_veto, refused_fails, falls, followed_sets, failed_fails, write_fails}
 use Rattle.promises.proofs.Limits.{timed_fails}
 use Rattle.promises.proofs.Times.{late_is_due}
@@ -381,14 +379,10 @@ module _ (s : Plan) (so_far : List Act) where
     names = λ lane w full q explicit mark g named i. same_line lane (op.Component w full) Fine _ refl refl refl refl refl;
     starts = λ lane q mark g e i. by_line lane op.Start (start_set q st).0 _ refl refl refl (told_none as_it_is _ (no_cause (Line lane op.Start) mark _ i refl) (same_rows rows));
     adds = λ lane v r q mark g e f i. by_line lane (op.Add v) Fine _ refl refl refl (told_none as_it_is _ (no_cause (Line lane (op.Add v)) mark _ i refl) (same_rows rows));
-    prepares = λ lane q mark g. by_if (Next (Line lane op.Prepare) mark) (has_no_volume (in_progress st)) (refused BadState st) _
-        (λ i. same_line lane op.Prepare (Coded BadState) st refl refl refl refl refl)
-        (λ i. by_line lane op.Prepare (Coded AsyncPending) _ refl refl refl
-        (quiet_course as_it_is (Line lane op.Prepare) mark true _ st refl (stay_begun as_it_is Prepare _ _ st.clock st.course _ (same_rows rows)) i));
-    snapshots = λ lane q mark g. by_if (Next (Line lane op.Snapshot) mark) (has_no_volume (in_progress st)) (refused BadState st) _
-        (λ i. same_line lane op.Snapshot (Coded BadState) st refl refl refl refl refl)
-        (λ i. by_line lane op.Snapshot (Coded AsyncPending) _ refl refl refl
-        (quiet_course as_it_is (Line lane op.Snapshot) mark true _ st refl (stay_begun as_it_is Snapshot _ _ st.clock st.course _ (same_rows rows)) i));
+    prepares = λ lane q mark g f i. by_line lane op.Prepare (Coded AsyncPending) _ refl refl refl
+        (quiet_course as_it_is (Line lane op.Prepare) mark true _ st refl (stay_begun as_it_is Prepare _ _ st.clock st.course _ (same_rows rows)) i);
+    snapshots = λ lane q mark g f i. by_line lane op.Snapshot (Coded AsyncPending) _ refl refl refl
+        (quiet_course as_it_is (Line lane op.Snapshot) mark true _ st refl (stay_begun as_it_is Snapshot _ _ st.clock st.course _ (same_rows rows)) i);
     completes = λ lane q mark g i. by_line lane op.Complete (Coded AsyncPending) _ refl refl refl
         (quiet_course as_it_is (Line lane op.Complete) mark true _ st refl (stay_begun as_it_is Complete _ _ st.clock st.course _ (same_rows rows)) i);
     aborts = λ lane q mark e i. by_line lane op.Abort Fine _ refl refl refl (by_abort (in_progress st) AsyncCancelled refl);

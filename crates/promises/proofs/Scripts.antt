@@ -14,9 +14,9 @@ use Rattle.promises.proofs.Words.{closed, Change, CourseIs, apply, CourseCall, A
 use Rattle.promises.proofs.Words.{Releases, IsDue, Comes, by_changes, number_is, failed_agenda, filter_passes}
 use Rattle.set_agenda.specs.declared.kind.Kind.TheVariants as kind
 use Rattle.set_agenda.specs.Course.{failed as course_failed, stepped_as as course_stepped_as}
-use Rattle.promises.proofs.Truth.{not_itself, same_number}
+use Rattle.promises.proofs.Members.{not_itself, same_number}
 use Rattle.vss_model.proofs.Changes.{Fails, called}
-use Rattle.promises.proofs.Heard.{same_group}
+use Rattle.promises.proofs.Orders.{same_group}
 use Rattle.promises.proofs.Speaks.{Grows, grows_answered, grows_stepped, grows_timed}
 use Rattle.promises.proofs.Stages.{failed_stays, closed_stays, grown}
 

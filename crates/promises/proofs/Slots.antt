@@ -1,21 +1,21 @@
 -- Images never use more slots than their group has: of each change of the volumes, that it leaves it so.
-use Rattle.std.proofs.Common.{◌≡◌, ◌∙◌, ℕ, ◌+◌, ◌==◌, ◌≤◌, ◌<◌, suc, List, [], ◌∷◌, ◌++◌, Option, Some, None, refl, Bool, true, false, ap, sym, subst, map}
-use Rattle.std.proofs.Common.{fold, length, arith}
+use Rattle.std.proofs.Common.{◌≡◌, ◌∙◌, ℕ, ◌+◌, ◌==◌, ◌≤◌, ◌<◌, List, [], ◌∷◌, ◌++◌, Option, Some, None, refl, Bool, true, false, ap, sym, subst, map}
+use Rattle.std.proofs.Common.{length, arith}
 use Rattle.std.specs.Prelude.{if◌then◌else◌, slice_get, option_map}
 use Rattle.promises.proofs.Words.{slice_get_within, get_or_from_slice_get, slice_get-map, VssResult, InsufficientStorage, AsyncCancelled, Said, Mark, Clean}
-use Rattle.promises.proofs.Words.{Fault, FaultAfter, Write, Image, History, fresh, point_in, written, reverted, reverted_in_part, AreInTime, Placed, Copy}
+use Rattle.promises.proofs.Words.{Fault, FaultAfter, Write, Image, History, fresh, point_in, written, reverted, reverted_in_part, AreInTime, Placed}
 use Rattle.promises.proofs.Words.{named, copy_of, copies_of, copies_from, group_used, used, needs_slot, said_of, Group, Cut, Commit, Session, VolumeRow, IsPlan}
 use Rattle.promises.proofs.Words.{group_slots, Plan, slots_in, slots_of, placed, placed_in, group_of, blocks_of, Event, State, SetRow, Kept, in_progress}
-use Rattle.promises.proofs.Words.{kept_image, Act, enabled, idle_now, after, state, state-append, UpTo, images_up_to, kept_point, row_number, images_in_time}
-use Rattle.promises.proofs.Words.{orderly, at, as_many_change, within, SlotsSuffice, Covers, covered, after_enabled, after_not_enabled, Course}
+use Rattle.promises.proofs.Words.{kept_image, Act, enabled, idle_now, after, state, UpTo, images_up_to, kept_point, row_number, images_in_time, length-append}
+use Rattle.promises.proofs.Words.{orderly, at, as_many_change, within, SlotsSuffice, Covers, covered, after_enabled, after_not_enabled, Course, by_acts}
 use Rattle.promises.proofs.Words.{answered as course_answered, timed as course_timed, change_at, Ending, SetFails, ending, runs, concluded, followed, failed_in}
 use Rattle.promises.proofs.Words.{failed, Replied, cleared, with_room_if, put, write, reverted_as, closed, cut_set, image_made, step_made, stepped_as, ticked}
-use Rattle.promises.proofs.Words.{later, going_up_to, set_loses_image, has_no_volume, number_is}
+use Rattle.promises.proofs.Words.{later, going_up_to, set_loses_image, number_is, length-map}
 use Rattle.vss_model.proofs.StateForm.{answered, stepped}
-use Rattle.promises.proofs.Truth.{chain, same_number}
-use Rattle.promises.proofs.GroupUsed.{group_less, group_other, group_more, changed_uses, enough_goes, one_left}
-use Rattle.promises.proofs.Shrinks.{InTime, used_in, LessIn, less_in_same, less_in_over, less_in_map, less_in_change, less_in_gone, less_images_dropped}
-use Rattle.promises.proofs.Shrinks.{less_released, UsesNoMore, uses_less, uses_over, uses_image}
+use Rattle.promises.proofs.Members.{chain, same_number}
+use Rattle.promises.proofs.GroupUsed.{group_less, group_other, group_more, changed_uses, enough_goes, one_left, InTime, used_in, LessIn, less_in_same}
+use Rattle.promises.proofs.GroupUsed.{less_in_over, less_in_map, less_in_change, less_in_gone, less_images_dropped, less_released, UsesNoMore, uses_less}
+use Rattle.promises.proofs.GroupUsed.{uses_over, uses_image}
 use Rattle.promises.proofs.Used.{rising, one_if, written_used, reverted_used, restored_used}
 use Rattle.promises.proofs.Orders.{smaller}
 
@@ -205,9 +205,6 @@ module _ (s : Plan) (plan : IsPlan s) (st : State) (time : (v : ℕ) → AreInTi
     abbrev Next : Event → Mark → Replied → Type 0
     Next event mark x = Fit x.1.volumes
 
-    either : (b : Bool) (x y : Replied) → Fit x.1.volumes → Fit y.1.volumes → Fit (if b then x else y).1.volumes
-    either b x y d e = grind arith
-
     fits : Covers Next s st
     fits = record {
       stays = λ lane o mark told e f. fit;
@@ -222,8 +219,8 @@ module _ (s : Plan) (plan : IsPlan s) (st : State) (time : (v : ℕ) → AreInTi
       names = λ lane w full q explicit mark g named. fit;
       starts = λ lane q mark g e. fit;
       adds = λ lane v r q mark g e f. fit;
-      prepares = λ lane q mark g. either (has_no_volume (in_progress st)) _ _ fit (by_less _ (less_followed true _ st));
-      snapshots = λ lane q mark g. either (has_no_volume (in_progress st)) _ _ fit (by_less _ (less_followed true _ st));
+      prepares = λ lane q mark g f. by_less _ (less_followed true _ st);
+      snapshots = λ lane q mark g f. by_less _ (less_followed true _ st);
       completes = λ lane q mark g. by_less _ (less_followed true _ st);
       aborts = λ lane q mark e. by_less _ (less_failed (in_progress st) AsyncCancelled st);
       ends = λ lane q mark e. fit_end q AsyncCancelled;
@@ -240,14 +237,11 @@ module _ (s : Plan) (plan : IsPlan s) (st : State) (time : (v : ℕ) → AreInTi
 abbrev FitAt : Plan → State → Type 0
 FitAt s x = (v : ℕ) → group_used (group_of s v) x.volumes ≤ slots_of s v
 
-fit_from : (s : Plan) (plan : IsPlan s) (so_far acts : List Act) → FitAt s (state s so_far) → FitAt s (fold (after s) (state s so_far) acts)
-fit_from s plan so_far [] h = h
-fit_from s plan so_far (act ∷ acts) h =
-    let st = state s so_far in
-    let o = orderly s so_far in
-    let next : FitAt s (state s (so_far ++ act ∷ [])) =
-    subst (FitAt s) (sym (state-append s so_far act)) (fit_if s plan st (images_in_time s so_far) (λ v. images_up_to st.sets st.volumes v o.numbered o.live) h (enabled s st act.event) act refl) in
-    subst (λ (x : State). FitAt s (fold (after s) x acts)) (state-append s so_far act) (fit_from s plan (so_far ++ act ∷ []) acts next)
+fit_next : (s : Plan) (plan : IsPlan s) (past : List Act) (act : Act) → FitAt s (state s past) → FitAt s (after s (state s past) act)
+fit_next s plan past act h =
+    let st = state s past in
+    let o = orderly s past in
+    fit_if s plan st (images_in_time s past) (λ v. images_up_to st.sets st.volumes v o.numbered o.live) h (enabled s st act.event) act refl
 
 none_yet : (ps : List Placed) (rows : List VolumeRow) → group_used ps (map (λ _. fresh) rows) ≡ 0
 none_yet [] rows = refl
@@ -259,22 +253,10 @@ none_yet (p ∷ ps) (r ∷ rows) = by_group p.within (none_yet ps rows) where
 
 -- ## as many slots as copies
 
-joined : (xs ys : List Copy) → length (xs ++ ys) ≡ length xs + length ys
-joined [] ys = none_more (length ys) where
-  none_more : (n : ℕ) → n ≡ 0 + n
-  none_more n = omega arith
-joined (x ∷ xs) ys = ap suc (joined xs ys) ∙ one_more (length xs) (length ys) where
-  one_more : (a b : ℕ) → suc (a + b) ≡ suc a + b
-  one_more a b = omega arith
-
-as_long : (f : ℕ → Copy) (xs : List ℕ) → length (map f xs) ≡ length xs
-as_long f [] = refl
-as_long f (x ∷ xs) = ap suc (as_long f xs)
-
 copies_of_are : (v n : ℕ) (ws : List Write) (images : List Image) → length (copies_of v n ws images) ≡ used n ws images
 copies_of_are v n ws [] = refl
 copies_of_are v n ws (i ∷ newer) =
-    joined (map (copy_of v ws i) (named n ws i newer)) (copies_of v n ws newer) ∙ ap (λ k. k + length (copies_of v n ws newer)) (as_long (copy_of v ws i) (named n ws i newer))
+    length-append (map (copy_of v ws i) (named n ws i newer)) (copies_of v n ws newer) ∙ ap (λ k. k + length (copies_of v n ws newer)) (length-map (named n ws i newer) (copy_of v ws i))
     ∙ ap (λ k. length (named n ws i newer) + k) (copies_of_are v n ws newer)
 
 copies_are : (v : ℕ) (ps : List Placed) (hs : List History) → length (copies_from v ps hs) ≡ group_used ps hs
@@ -287,14 +269,14 @@ copies_are v (p ∷ ps) (h ∷ hs) = by_group p.within (copies_of_are v p.blocks
   by_group : (b : Bool) → length (copies_of v p.blocks h.writes h.images) ≡ used p.blocks h.writes h.images
       → length (copies_from (v + 1) ps hs) ≡ group_used ps hs → length (copies_from v ps hs) ≡ group_used ps hs
       → length (if b then copies_of v p.blocks h.writes h.images ++ copies_from (v + 1) ps hs else copies_from v ps hs) ≡ (if b then used p.blocks h.writes h.images else 0) + group_used ps hs
-  by_group true e f g = joined (copies_of v p.blocks h.writes h.images) (copies_from (v + 1) ps hs) ∙ ap (λ k. k + length (copies_from (v + 1) ps hs)) e
+  by_group true e f g = length-append (copies_of v p.blocks h.writes h.images) (copies_from (v + 1) ps hs) ∙ ap (λ k. k + length (copies_from (v + 1) ps hs)) e
       ∙ ap (λ k. used p.blocks h.writes h.images + k) f
   by_group false e f g = g ∙ none_more (group_used ps hs)
 
 pub slots_suffice : (s : Plan) (so_far : List Act) → SlotsSuffice s so_far
 slots_suffice s so_far plan v =
     subst (λ n. n ≤ slots_of s v) (sym (copies_are 0 (group_of s v) (state s so_far).volumes))
-    (fit_from s plan [] so_far (λ u. none_used (group_used (group_of s u) (map (λ _. fresh) s.volumes)) (slots_of s u) (none_yet (group_of s u) s.volumes)) v)
+    (by_acts (FitAt s) s (fit_next s plan) (λ u. none_used (group_used (group_of s u) (map (λ _. fresh) s.volumes)) (slots_of s u) (none_yet (group_of s u) s.volumes)) so_far v)
   where
     none_used : (m n : ℕ) → m ≡ 0 → m ≤ n
     none_used m n e = omega arith

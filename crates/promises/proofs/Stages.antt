@@ -6,7 +6,7 @@ use Rattle.std.proofs.Common.{◌≡◌, ◌∙◌, ℕ, ◌==◌, ◌≤◌, �
 use Rattle.std.specs.Prelude.{◌||◌, not, if◌then◌else◌}
 use Rattle.std.proofs.lemmas.Bool.{or_left, or_right}
 use Rattle.set_agenda.specs.Agenda.{Agenda, Entry, Open, places, has_failed, has_said, writers_at, members_of, waited_for, with_group, left_from, groups_left, is_among, at_place, all_say}
-use Rattle.promises.proofs.Truth.{chain, no_less, same_number}
+use Rattle.promises.proofs.Members.{chain, no_less, same_number}
 use Rattle.promises.proofs.Speaks.{deed_at, deed_in, said_at}
 use Rattle.vss_model.proofs.Spoken.{fewer_wait}
 
@@ -137,9 +137,7 @@ fewer_unfailed log new p (x ∷ xs) e =
     by_head true true b c s t f g e ih = ih e
     by_head true false b c s t f g e ih = absurd (true_not_false false (f refl) refl)
     by_head false true b c s t f g e ih = ih (drops (has_said log p x) _ e).1
-    by_head false false b c s t f g e ih =
-        let old = drops (has_said log p x) _ e in
-        keep (has_said (log ++ new) p x) _ (t ∙ g (sym s ∙ old.0)) (ih old.1)
+    by_head false false b c s t f g e ih = let old = drops (has_said log p x) _ e in keep (has_said (log ++ new) p x) _ (t ∙ g (sym s ∙ old.0)) (ih old.1)
 
 module _ (said : Said) (now : ℕ) (ws : List ℕ) (a : Agenda) where
   abbrev pub new_log : List Entry
@@ -203,10 +201,9 @@ Closed a k (p ∷ ps) = (place_stage p < k → waited_for a p ≡ []) × Closed 
 
 pub none_below : (a : Agenda) (m k : ℕ) (ps : List Place) → From m ps → k ≤ m → Closed a k ps
 none_below a m k [] h l = tt
-none_below a m k (p ∷ ps) h l =
-    (λ i. absurd (over m (place_stage p) k h.0 l i), none_below a (place_stage p) k ps h.1 (chain k m (place_stage p) l h.0)) where
-      over : (m g k : ℕ) → m ≤ g → k ≤ m → g < k → ⊥
-      over m g k h l i = omega arith
+none_below a m k (p ∷ ps) h l = (λ i. absurd (over m (place_stage p) k h.0 l i), none_below a (place_stage p) k ps h.1 (chain k m (place_stage p) l h.0)) where
+  over : (m g k : ℕ) → m ≤ g → k ≤ m → g < k → ⊥
+  over m g k h l i = omega arith
 
 pub closed_below : (a : Agenda) (m : ℕ) (ps : List Place) → From m ps → Closed a (open_stage (left_from a ps)) ps
 closed_below a m [] h = tt

@@ -10,12 +10,11 @@ use Rattle.promises.proofs.Words.{with_room_if, put, write, reverted_as, step_ma
 use Rattle.vss_names.specs.declared.set_outcome.SetOutcome.TheVariants.{Running as RunningSet, Complete as CompleteSet}
 use Rattle.set_agenda.specs.Course.{failed as course_failed}
 use Rattle.vss_model.proofs.StateForm.{answered, stepped}
-use Rattle.promises.proofs.BusyAgendas.{IsBusy, busy_set, busy_step}
-use Rattle.promises.proofs.CalmCourses.{CalmOrBusy, calm_answered, calm_stepped, calm_timed}
-use Rattle.promises.proofs.Contexts.{settled_number, changed_number}
+use Rattle.promises.proofs.CourseRows.{IsBusy, busy_set, busy_step}
+use Rattle.promises.proofs.CalmStages.{CalmOrBusy, calm_answered, calm_stepped, calm_timed}
+use Rattle.promises.proofs.Contexts.{settled_number, changed_number, failure_at, failure_map, running_calm, settled_calm, changed_result, failures_made}
 use Rattle.promises.proofs.GoneImages.{none_stepped}
-use Rattle.promises.proofs.SetFailures.{failure_at, failure_map, running_calm, settled_calm, changed_result, failures_made}
-use Rattle.promises.proofs.SameChoice.{session_made}
+use Rattle.promises.proofs.Members.{session_made}
 
 -- the set in progress fails, and the session with it
 pub record Falls (st x : State) : Type 0 where
@@ -137,8 +136,7 @@ module _ (s : Plan) (so_far : List Act) where
       inl (record {
         why = why;
         session = ap (option_map (set_failed why)) session;
-        failure = fallen (failed_in (Some r) why y) (FailedSet why) why
-            (ap (map (row_settled (FailedSet why))) sets) refl (ap is_some e);
+        failure = fallen (failed_in (Some r) why y) (FailedSet why) why (ap (map (row_settled (FailedSet why))) sets) refl (ap is_some e);
         outcome = refl;
       })
 

@@ -1,12 +1,13 @@
 -- How many slots the images of a volume use: where images go, no more; where one is cut, as many; where a write comes, at most one
 -- more, and that where it needs a slot; where the volume is reverted, no more.
-use Rattle.std.proofs.Common.{◌≡◌, ◌∙◌, ℕ, ◌+◌, ◌-◌, ◌==◌, ◌≤◌, ◌<◌, zero, suc, List, [], ◌∷◌, ◌++◌, Some, refl, Bool, true, false, ap, sym, subst, map, filter, length, take, drop, arith}
+use Rattle.std.proofs.Common.{◌≡◌, ◌∙◌, ℕ, ◌+◌, ◌-◌, ◌==◌, ◌≤◌, ◌<◌, List, [], ◌∷◌, ◌++◌, Some, refl, Bool, true, false, ap, sym, subst, map, filter, length, take, drop, arith}
 use Rattle.std.specs.Prelude.{not, nat_lt, if◌then◌else◌, slice_range}
-use Rattle.promises.proofs.Words.{take-add, drop-nil, drop-append-le, take-append-drop, drop_all, take_all, length-drop, list_any-append, Write, Image}
+use Rattle.promises.proofs.Words.{take-add, drop-append-le, take-append-drop, drop_all, take_all, length-drop, list_any-append, Write, Image}
 use Rattle.promises.proofs.Words.{point_in, up_to_set, AreLater, AreInTime, names, blocks_named, to_restore, restoring, writes_since, used, needs_slot}
 use Rattle.promises.proofs.Words.{some_same, or_cases, unless, true_not_false}
-use Rattle.promises.proofs.Truth.{chain, no_less}
+use Rattle.promises.proofs.Members.{chain, no_less}
 use Rattle.promises.proofs.Named.{NameNoMore, named_no_more, named_in_parts, named_by_none, named_by_one, inner_no_more, later_no_more, since_later, inner_append, restored_no_more}
+use Rattle.std.proofs.lemmas.List.{drop-drop}
 
 -- ## points that rise
 
@@ -50,14 +51,9 @@ split_inner p q r ws l h = ap (λ n. take n (drop p ws)) (parts p q r l h) ∙ t
   parts p q r l h = omega arith
 
 drop_twice : (p q : ℕ) (ws : List Write) → p ≤ q → drop (q - p) (drop p ws) ≡ drop q ws
-drop_twice zero q ws l = ap (λ n. drop n ws) (none_less q) where
-  none_less : (q : ℕ) → q - 0 ≡ q
-  none_less q = omega arith
-drop_twice (suc p) zero ws l = absurd (omega arith)
-drop_twice (suc p) (suc q) [] l = drop-nil (suc q - suc p)
-drop_twice (suc p) (suc q) (w ∷ ws) l = ap (λ n. drop n (drop p ws)) (one_less p q) ∙ drop_twice p q ws (omega arith) where
-  one_less : (p q : ℕ) → suc q - suc p ≡ q - p
-  one_less p q = omega arith
+drop_twice p q ws l = drop-drop (q - p) p ws ∙ ap (λ n. drop n ws) (there p q l) where
+  there : (p q : ℕ) → p ≤ q → p + (q - p) ≡ q
+  there p q l = omega arith
 
 -- the writes since one point are those up to a later one, and those since that
 since_in_parts : (ws : List Write) (p q : ℕ) (newer : List Image) → p ≤ q → Rising q (length ws) newer → writes_since ws p newer ≡ slice_range ws p q ++ writes_since ws q newer

@@ -10,15 +10,16 @@ use Rattle.promises.proofs.Words.{is_agreed, is_made, is_again, AreOnce, is_fail
 use Rattle.promises.proofs.Words.{unless, all_said, either_way, filter_passes, waits_unsaid}
 use Rattle.set_agenda.specs.Agenda.{has_failed}
 use Rattle.promises.specs.Way.{failed}
-use Rattle.promises.proofs.Truth.{same_number}
+use Rattle.promises.proofs.Members.{same_number}
 use Rattle.promises.proofs.Along.{IsKeptAlong, last_stand}
 use Rattle.promises.proofs.Levels.{Ascends, MembersOf, levels_are, members_ascend}
 use Rattle.promises.proofs.Speaks.{deed_at, deed_in, said_at, Speaks, IsOne}
 use Rattle.promises.proofs.Stages.{deeds_in, deeds_append, any_more, any_said, group_stage, place_stage, leveled, IsOfLevel, open_stage, Below, below_more}
 use Rattle.promises.proofs.Stages.{below_append, rising_append, stages_more, closed_stays, goes_up, Closed, closed_below, snapshot_from}
-use Rattle.promises.proofs.Heard.{said_deed, place_of, volume_number, Good, good_unspoken, steps_plain, open_plain, order_member, heard_writer, made_volume, alone, is_step}
+use Rattle.promises.proofs.Orders.{said_deed, place_of, volume_number, Good, good_unspoken, steps_plain, open_plain, order_member, heard_writer, made_volume}
+use Rattle.promises.proofs.Orders.{alone, is_step, agreed_at, post_group, heard_group, heard_agreed, all_among, heard_at, prepare_heard, freeze_heard}
+use Rattle.promises.proofs.Orders.{thaw_heard, of_group_level, levels_given, open_leveled}
 use Rattle.promises.proofs.Once.{once_one, Apart, once_spoken, waits_apart, none_given, open_unleveled, level_some, is_order_place}
-use Rattle.promises.proofs.Orders.{agreed_at, post_group, heard_group, heard_agreed, all_among, heard_at, prepare_heard, freeze_heard, thaw_heard, of_group_level, levels_given, open_leveled}
 use Rattle.promises.proofs.Scripts.{kept_among}
 
 -- ## one more is said

@@ -1,27 +1,28 @@
--- No limit that would fail the set is outrun as the clock stands.
+-- No limit that would fail the set is outrun as the clock stands, and no order is open for more than the answer limit.
 use Rattle.std.proofs.Common.{◌≡◌, ◌∙◌, ℕ, ◌+◌, zero, suc, List, [], ◌∷◌, Option, Some, None, refl, Bool, true, false, ap, sym, subst, fold, min, arith}
 use Rattle.std.specs.Prelude.{◌&&◌, not, option_map, slice_get}
+use Rattle.set_agenda.specs.Course.{failed as course_failed}
+use Rattle.set_agenda.specs.declared.limit.Limit.TheVariants.{Hold as HoldLimit, Freeze as FreezeLimit}
+use Rattle.vss_model.proofs.Rules.{Running}
+use Rattle.vss_model.proofs.StateForm.{answered, stepped}
+use Rattle.promises.proofs.Moves.{clock-made}
+use Rattle.promises.proofs.Limits.{is_due_in, due_in, spent_runs, passed_spent}
+use Rattle.promises.proofs.Lost.{lost_in_time}
+use Rattle.promises.proofs.NotSpent.{at_once, none_both, unspent_if, is_mild, mild_order, none_second, is_unspent, Ordered, Unspent, InTime, said_in_time}
+use Rattle.promises.proofs.Speaks.{Speaks, now_group}
+use Rattle.promises.proofs.Times.{late_is_due}
 use Rattle.promises.proofs.Words.{Order, VssResult, AsyncCancelled, Said, Ok, Lost, WriterRow, is_ok, row_after, default_freeze, Mark, Write, said_of, Group}
 use Rattle.promises.proofs.Words.{Kind, Limit, Member, Agenda, Open, order_of, is_orders, groups_left, left, waits_now, order_now, is_among, open_order}
 use Rattle.promises.proofs.Words.{is_working, next_member, all_say, Running as RunningLimit, answer_runs, running_at, running_limits, spent_of, none_and_some}
 use Rattle.promises.proofs.Words.{spent_here, Session, Plan, Event, State, SetRow, Kept, start, in_progress, left_now, Act, enabled, idle_now, after, state}
-use Rattle.promises.proofs.Words.{is_late_in, asked_if, asked_waits, StandsWithinLimits, Covers, covered, after_enabled, after_not_enabled, by_if}
-use Rattle.promises.proofs.Words.{false_from_ne_true, Answer as AnswerLimit, Course, posted, rows_where, row_if, limit_of, freeze_limit, limits_now, settled_if}
-use Rattle.promises.proofs.Words.{settled_in, settled, begun, told, is_decisive, decided, answered_to, answered as course_answered, worked}
-use Rattle.promises.proofs.Words.{stepped as course_stepped, lost_to, lost, fails_set, lost_decided, treated_as, treated, timed as course_timed, released}
-use Rattle.promises.proofs.Words.{Ending, ending, runs, concluded, followed, failed_in, failed, Replied, with_room_if, put, write, reverted_as, closed}
-use Rattle.promises.proofs.Words.{step_made, stepped_as, ticked, has_no_volume, unspoken, head_waits}
-use Rattle.set_agenda.specs.declared.limit.Limit.TheVariants.{Hold as HoldLimit, Freeze as FreezeLimit}
-use Rattle.set_agenda.specs.Course.{failed as course_failed}
-use Rattle.vss_model.proofs.StateForm.{answered, stepped}
-use Rattle.vss_model.proofs.LogRule.{Running}
-use Rattle.promises.proofs.Clock.{clock-made}
-use Rattle.promises.proofs.Limits.{is_due_in, due_in, spent_runs}
-use Rattle.promises.proofs.Speaks.{Speaks, now_group}
-use Rattle.promises.proofs.Times.{late_is_due}
-use Rattle.promises.proofs.NotSpent.{at_once, none_both, unspent_if, is_mild, mild_order}
-use Rattle.promises.proofs.AllLost.{lost_in_time}
-use Rattle.promises.proofs.OneMore.{Ordered, Unspent, InTime, said_in_time}
+use Rattle.promises.proofs.Words.{is_late_in, asked_if, asked_waits, StandsWithinLimits, Covers, covered, after_enabled, after_not_enabled, false_from_ne_true}
+use Rattle.promises.proofs.Words.{Answer as AnswerLimit, Course, posted, rows_where, row_if, limit_of, freeze_limit, limits_now, settled_if, settled_in}
+use Rattle.promises.proofs.Words.{settled, begun, told, is_decisive, decided, answered_to, answered as course_answered, worked, stepped as course_stepped}
+use Rattle.promises.proofs.Words.{lost_to, lost, fails_set, lost_decided, treated_as, treated, timed as course_timed, released, Ending, ending, runs, concluded}
+use Rattle.promises.proofs.Words.{followed, failed_in, failed, Replied, with_room_if, put, write, reverted_as, closed, step_made, stepped_as, ticked, unspoken}
+use Rattle.promises.proofs.Words.{head_waits, true_not_false, informs_writers, is_overdue_at, is_overdue_in, OrdersEnd, answer_since, and_parts}
+
+-- ## No limit that would fail the set is outrun as the clock stands.
 
 -- ## the course
 
@@ -127,9 +128,7 @@ nobody_asked now f (Some a) l e k i = at_list (groups_left a) e i where
 all_lost : (now f : ℕ) (x : Option Agenda) (o : Order) → order_now (left x) ≡ Some o → is_decisive o ≡ false → Running Ordered x
     → Running (InTime now f) (option_map (all_say Lost now (waits_now (left x))) x)
 all_lost now f None o e d h = tt
-all_lost now f (Some a) o e d h =
-    let group = now_group (groups_left a) o e in
-    lost_in_time now a (ap is_orders group) h (ap is_mild group ∙ mild_order o d) f
+all_lost now f (Some a) o e d h = let group = now_group (groups_left a) o e in lost_in_time now a (ap is_orders group) h (ap is_mild group ∙ mild_order o d) f
 
 keeps_lost_to : (now : ℕ) (c : Course) (l : RunningLimit) (x : Option Order) → order_now (left c.agenda) ≡ x → fails_set x ≡ false
     → spent_of now (limits_now c) ≡ Some l → l.limit ≡ AnswerLimit → Running Ordered c.agenda → Keeps now (lost_to x now c)
@@ -233,8 +232,8 @@ module _ (s : Plan) (st : State) (h : InTimeNow st) where
     names = λ lane w full q explicit mark g named. h;
     starts = λ lane q mark g e. h;
     adds = λ lane v r q mark g e f. h;
-    prepares = λ lane q mark g. by_if (λ r. InTimeNow r.1) (has_no_volume (in_progress st)) _ _ h (followed_in_time true _ st (keeps_begun _ _ _ st.clock _));
-    snapshots = λ lane q mark g. by_if (λ r. InTimeNow r.1) (has_no_volume (in_progress st)) _ _ h (followed_in_time true _ st (keeps_begun _ _ _ st.clock _));
+    prepares = λ lane q mark g f. followed_in_time true _ st (keeps_begun _ _ _ st.clock _);
+    snapshots = λ lane q mark g f. followed_in_time true _ st (keeps_begun _ _ _ st.clock _);
     completes = λ lane q mark g. followed_in_time true _ st (keeps_begun _ _ _ st.clock _);
     aborts = λ lane q mark e. failed_in_time (in_progress st) AsyncCancelled st h;
     ends = λ lane q mark e. on_close q (failed AsyncCancelled st);
@@ -268,3 +267,17 @@ stands_within_limits s so_far =
   where
     no_more : (n : ℕ) → n ≡ n + 0
     no_more n = omega arith
+
+-- ## No order is open for more than the answer limit.
+
+informing_runs : (g : Group) → informs_writers g ≡ true → answer_runs g ≡ true
+informing_runs g e = grind arith
+
+not_overdue_at : (now f : ℕ) (a : Agenda) (os : List Open) → spent_of now (running_at f a os) ≡ None → is_overdue_at now a os ≡ false
+not_overdue_at now f a os e = grind (arith, false_from_ne_true, and_parts, passed_spent, answer_since, none_second, true_not_false, is_unspent, informing_runs)
+
+not_overdue : (now f : ℕ) (x : Option Agenda) → Running (InTime now f) x → is_overdue_in now x ≡ false
+not_overdue now f x h = grind (arith, not_overdue_at)
+
+pub orders_end : (s : Plan) (so_far : List Act) → OrdersEnd s so_far
+orders_end s so_far = not_overdue (state s so_far).clock (freeze_limit (state s so_far).course) (state s so_far).course.agenda (none_spent s so_far)

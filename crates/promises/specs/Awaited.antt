@@ -1,23 +1,32 @@
--- What `await` tells: the last result of the session. There is none after its `begin`; where an agenda ends without failing the set it is
--- AsyncFinished, and where the set fails it is the set's own result. (That an asynchronous call ends so is the SDK's; which result is the
--- last is this project's own.)
-use Rattle.std.specs.Prelude.{ℕ, ◌≡◌, ◌&&◌, ◌||◌, not, if◌then◌else◌, Bool, true, false, List, [], ◌∷◌, Option, Some, None}
+-- What `await` tells, and which code a set fails with.
+use Rattle.std.specs.Prelude.{ℕ, ◌≡◌, ◌&&◌, ◌||◌, not, if◌then◌else◌, Bool, true, false, List, [], ◌∷◌, Option, Some, None, ◌+◌}
 use Rattle.vss_names.specs.declared.set_outcome.SetOutcome.{SetOutcome}
 use Rattle.vss_names.specs.declared.set_outcome.SetOutcome.TheVariants.{Running, Complete, Failed}
 use Rattle.vss_names.specs.declared.vss_result.VssResult.{VssResult}
-use Rattle.vss_names.specs.declared.vss_result.VssResult.TheVariants.{AsyncFinished, BadState}
+use Rattle.vss_names.specs.declared.vss_result.VssResult.TheVariants.{AsyncFinished, BadState, Writer as WriterFault, AsyncCancelled, UnexpectedProviderError}
+use Rattle.vss_names.specs.declared.vss_result.VssResult.TheVariants.{InsufficientStorage, HoldWritesTimeout, WriterNotResponding}
+use Rattle.vss_names.specs.declared.writer_error.WriterError.TheVariants.{Timeout}
+use Rattle.set_agenda.specs.Agenda.{Agenda, Open, groups_left}
+use Rattle.set_agenda.specs.Course.{Course}
+use Rattle.writer_calls.specs.declared.answer.Answer.{Answer}
+use Rattle.writer_calls.specs.declared.answer.Answer.TheVariants.{Ok, Veto}
 use Rattle.requestor.specs.Session.{Session}
-use Rattle.scenario.specs.declared.op.Op.TheVariants.{Await}
 use Rattle.scenario.specs.Bounds.{is_begin, begins_agenda}
 use Rattle.scenario.specs.Plan.{Plan}
-use Rattle.vss_model.specs.declared.event.Event.{Event}
-use Rattle.vss_model.specs.declared.event.Event.TheVariants.{Line}
-use Rattle.vss_model.specs.Reply.{Reply, Coded}
+use Rattle.scenario.specs.declared.op.Op.{Op}
+use Rattle.scenario.specs.declared.op.Op.TheVariants.{Await, WriteFill, WriteStamp, Tick, Abort, End}
+use Rattle.vss_model.specs.Acts.{Act, enabled, reply, after, state, idle_now}
+use Rattle.vss_model.specs.Causes.{held_too_long, frozen_too_long}
+use Rattle.vss_model.specs.Steps.{runs}
+use Rattle.vss_model.specs.Reply.{is_fine, is_pending, Reply, Coded}
 use Rattle.vss_model.specs.State.{State, SetRow, start, in_progress, row_of}
-use Rattle.vss_model.specs.Ending.{runs}
-use Rattle.vss_model.specs.Acts.{Act, enabled, reply, after, state}
-use Rattle.vss_model.specs.Replies.{is_fine, is_pending}
+use Rattle.vss_model.specs.declared.event.Event.{Event}
+use Rattle.vss_model.specs.declared.event.Event.TheVariants.{Line, Answer as AnswerEvent, Provider, Idle}
 use Rattle.promises.specs.Accepted.{Owns}
+
+-- ## What `await` tells: the last result of the session. There is none after its `begin`; where an agenda ends without failing the set it is
+-- AsyncFinished, and where the set fails it is the set's own result. (That an asynchronous call ends so is the SDK's; which result is the
+-- last is this project's own.)
 
 -- ## what an act makes of it
 
@@ -76,3 +85,47 @@ result_told (Some why) = Coded why
 abbrev pub AwaitTells : Plan → List Act → Act → Type 0
 AwaitTells s so_far act = (lane : ℕ) (q : Session) → act.event ≡ Line lane Await → enabled s (state s so_far) act.event ≡ true → Owns (state s so_far) lane q
     → reply s (state s so_far) act ≡ result_told (last_result s so_far)
+
+-- ## Which code a set fails with: AsyncCancelled where its owner gives it up, the code of the veto, UnexpectedProviderError where a device fails
+-- a flush, InsufficientStorage where a write takes its image. Where the clock goes on it is HoldWritesTimeout if volumes were held too long; or
+-- else a writer's time-out, if writers stood frozen too long; or else WriterNotResponding. (The codes are the SDK's; which of them stands for
+-- which cause is this project's own.)
+
+-- of what takes too long at the open group, as the clock stands then
+abbrev pub late_code_at : ℕ → Course → Agenda → List Open → VssResult
+late_code_at now c a [] = WriterNotResponding
+late_code_at now c a (o ∷ os) =
+    if held_too_long now o.place.group a then HoldWritesTimeout
+    else if frozen_too_long now o.place.group c a then WriterFault Timeout
+    else WriterNotResponding
+
+abbrev pub late_code_in : ℕ → Course → Option Agenda → VssResult
+late_code_in now c None = WriterNotResponding
+late_code_in now c (Some a) = late_code_at now c a (groups_left a)
+
+-- once the clock has gone on by so many ticks
+abbrev pub late_code : State → ℕ → VssResult
+late_code st ticks = late_code_in (st.clock + ticks) st.course st.course.agenda
+
+abbrev pub IsAnswerCode : Answer → VssResult → Type 0
+IsAnswerCode Ok why = ⊥
+IsAnswerCode (Veto error) why = why ≡ WriterFault error
+
+abbrev pub IsLineCode : State → Op → VssResult → Type 0
+IsLineCode st (WriteFill v b x) why = why ≡ InsufficientStorage
+IsLineCode st (WriteStamp v b x) why = why ≡ InsufficientStorage
+IsLineCode st (Tick n) why = why ≡ late_code st n
+IsLineCode st Abort why = why ≡ AsyncCancelled
+IsLineCode st End why = why ≡ AsyncCancelled
+IsLineCode st op why = ⊥
+
+abbrev pub IsCode : State → Event → VssResult → Type 0
+IsCode st (Line lane op) why = IsLineCode st op why
+IsCode st (AnswerEvent w answer) why = IsAnswerCode answer why
+IsCode st Provider why = why ≡ UnexpectedProviderError
+IsCode st Idle why = why ≡ late_code st (idle_now st)
+
+-- the set in progress that has failed in the act
+abbrev pub FailsByCode : Plan → List Act → Act → Type 0
+FailsByCode s so_far act = (why : VssResult) → enabled s (state s so_far) act.event ≡ true
+    → set_failure (in_progress (state s so_far)) (after s (state s so_far) act) ≡ Some why → IsCode (state s so_far) act.event why

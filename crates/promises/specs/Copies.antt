@@ -1,16 +1,24 @@
--- The copies that an area keeps: one, and no more, of each block of the images that stand on the volumes of its group that was overwritten
--- after the image's cut, and before that of the next; and it holds the block as it was at the one cut of its set. (That overwritten blocks
--- are copied is the SDK's; areas shared by groups are this project's own.)
-use Rattle.std.specs.Prelude.{ℕ, ◌≡◌, ◌+◌, ◌<◌, ◌==◌, ◌&&◌, ◌||◌, not, nat_lt, nat_le, zero, suc, drop, if◌then◌else◌, Bool, true, false, List, [], ◌∷◌, Some, All, slice_get}
-use Rattle.std.specs.List.{list_any}
-use Rattle.write_history.specs.History.{Write, Image, point_in}
+-- The copies that an area keeps, that they never need more slots than it has, and what `properties` tells of a kept image.
+use Rattle.std.specs.List.{list_any, range_with_len}
+use Rattle.std.specs.Prelude.{ℕ, ◌≡◌, ◌+◌, ◌<◌, ◌==◌, ◌&&◌, ◌||◌, not, nat_lt, nat_le, zero, suc, drop, if◌then◌else◌, Bool, true, false, List, [], ◌∷◌, Some}
+use Rattle.std.specs.Prelude.{All, slice_get, ◌≤◌, length, filter, None, is_some}
+use Rattle.vss_names.specs.declared.vss_result.VssResult.TheVariants.{ObjectNotFound}
+use Rattle.write_history.specs.History.{Write, Image, point_in, History}
 use Rattle.write_history.specs.Slots.{Placed, Copy, copies}
-use Rattle.scenario.specs.Plan.{Plan, blocks_of, group_of}
-use Rattle.vss_model.specs.State.{history_of}
-use Rattle.vss_model.specs.Acts.{Act, state}
+use Rattle.scenario.specs.Bounds.{IsPlan}
+use Rattle.scenario.specs.Plan.{Plan, blocks_of, group_of, slots_of}
+use Rattle.scenario.specs.declared.op.Op.TheVariants.{Properties}
+use Rattle.vss_model.specs.Acts.{Act, state, reply}
 use Rattle.vss_model.specs.Cut.{cut}
+use Rattle.vss_model.specs.Reply.{Reply, Coded, PropertiesOf}
+use Rattle.vss_model.specs.State.{history_of, SetRow, row_of, kept_image}
+use Rattle.vss_model.specs.declared.event.Event.TheVariants.{Line}
 use Rattle.promises.specs.Contents.{block_now}
 use Rattle.promises.specs.Gone.{stands, within}
+
+-- ## The copies that an area keeps: one, and no more, of each block of the images that stand on the volumes of its group that was overwritten
+-- after the image's cut, and before that of the next; and it holds the block as it was at the one cut of its set. (That overwritten blocks
+-- are copied is the SDK's; areas shared by groups are this project's own.)
 
 -- the number of volume u among those of a group, which are numbered from k on
 abbrev pub place_from : ℕ → List Placed → ℕ → ℕ
@@ -57,3 +65,33 @@ pub record KeepsCopies (s : Plan) (so_far : List Act) : Type 0 where
       → list_any (is_copy (place_from 0 (group_of s v) u) n b) (copies (group_of s v) (state s so_far).volumes)
       ≡ is_overwritten n b (history_of (state s so_far) u).images p (drop p (history_of (state s so_far) u).writes)
   pub once : (v : ℕ) → are_once (copies (group_of s v) (state s so_far).volumes) ≡ true
+
+-- ## An area never needs more slots than it has: no more copies than that are to be kept for the images of its group. (That copies are kept in a
+-- space of a given size is the SDK's; sharing by groups is this project's own.)
+
+-- in a plan as a scenario's text gives it, where the volumes of a group all name the group's slots
+abbrev pub SlotsSuffice : Plan → List Act → Type 0
+SlotsSuffice s so_far = IsPlan s → (v : ℕ) → length (copies (group_of s v) (state s so_far).volumes) ≤ slots_of s v
+
+-- ## What `properties` tells of a kept image: the context of its set, the clock at the set's one cut, and the slots of its group that the
+-- image uses, one for each block of its volume that was overwritten since its cut and before the next image's. (The call is the SDK's
+-- GetSnapshotProperties; what it tells is this project's own.)
+
+-- how many of the first k blocks were overwritten since this point, the image's of set n, and before the next image's
+abbrev pub overwritten : ℕ → ℕ → ℕ → History → ℕ
+overwritten k n p h = length (filter (λ b. is_overwritten n b h.images p (drop p h.writes)) (range_with_len 0 k))
+
+pub record TellsTheImage (s : Plan) (so_far : List Act) (n v : ℕ) (told : Reply) : Type 0 where
+  pub set : SetRow
+  pub is_set : row_of (state s so_far) n ≡ Some set
+  pub before : List Act
+  pub is_cut : cut s n so_far ≡ Some before
+  pub slots : ℕ
+  pub point : ℕ
+  pub is_point : point_in n (history_of (state s so_far) v).images ≡ Some point
+  pub uses : slots ≡ overwritten (blocks_of s v) n point (history_of (state s so_far) v)
+  pub tells : told ≡ PropertiesOf set.context (state s before).clock slots
+
+pub record PropertiesTell (s : Plan) (so_far : List Act) (act : Act) : Type 0 where
+  pub image : (lane n v : ℕ) → act.event ≡ Line lane (Properties n v) → is_some (kept_image (state s so_far) n v) ≡ true → TellsTheImage s so_far n v (reply s (state s so_far) act)
+  pub no_image : (lane n v : ℕ) → act.event ≡ Line lane (Properties n v) → kept_image (state s so_far) n v ≡ None → reply s (state s so_far) act ≡ Coded ObjectNotFound

@@ -16,13 +16,11 @@ use Rattle.scenario.specs.declared.op.Op.TheVariants.{Begin, Component, Document
 use Rattle.scenario.specs.Plan.{Plan, WriterPlan, token}
 use Rattle.vss_model.specs.declared.event.Event.{Event}
 use Rattle.vss_model.specs.declared.event.Event.TheVariants.{Line}
-use Rattle.vss_model.specs.Reply.{Reply, DocumentOf}
+use Rattle.vss_model.specs.Reply.{Reply, DocumentOf, is_fine}
 use Rattle.vss_model.specs.State.{State, start}
 use Rattle.vss_model.specs.Sessions.{known_metas}
 use Rattle.vss_model.specs.Acts.{Act, enabled, reply, after, state}
-use Rattle.vss_model.specs.Replies.{is_fine}
-use Rattle.promises.specs.Accepted.{is_accepted}
-use Rattle.promises.specs.InOrder.{progress}
+use Rattle.promises.specs.Accepted.{is_accepted, progress}
 use Rattle.promises.specs.Participants.{is_chosen, is_unfit, choosing}
 
 -- ## what the session has named

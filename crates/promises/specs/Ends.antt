@@ -1,21 +1,39 @@
--- How sets go on and end. A set that was started keeps its row, whatever comes; at the end of a complete trail it is complete or has
--- failed; and where nothing disturbs it while it is in progress, it is complete. (That a set which nobody refuses and nothing stops
--- completes is what the SDK's DoSnapshotSet is called for; what counts as a disturbance is this project's own.)
-use Rattle.std.specs.Prelude.{ℕ, ◌≡◌, Bool, true, false, List, ◌∷◌, ◌++◌, Some}
+-- The sets: no volume is twice in one, how they go on and end, and which is told as ended.
+use Rattle.std.specs.Prelude.{ℕ, ◌≡◌, true, List, Some, false, None, Bool, ◌∷◌, ◌++◌}
 use Rattle.write_history.specs.declared.move_item.Move.{Move}
-use Rattle.writer_calls.specs.declared.answer.Answer.{Answer}
 use Rattle.set_agenda.specs.Agenda.{is_among, open_group}
-use Rattle.scenario.specs.declared.op.Op.{Op}
-use Rattle.scenario.specs.declared.op.Op.TheVariants.{Abort, End}
+use Rattle.set_agenda.specs.Advance.{are_distinct}
+use Rattle.writer_calls.specs.declared.answer.Answer.{Answer}
 use Rattle.scenario.specs.Calls.{Target, target_of}
 use Rattle.scenario.specs.Plan.{Plan}
-use Rattle.vss_model.specs.declared.event.Event.TheVariants.{Line, Answer as AnswerEvent, Provider}
-use Rattle.vss_model.specs.State.{State, SetRow, is_running, is_complete, in_progress, row_of, left_now}
-use Rattle.vss_model.specs.Acts.{Act, after, order_of_writer, state}
-use Rattle.vss_model.specs.Effects.{ticks_of}
-use Rattle.vss_model.specs.Trail.{acts}
+use Rattle.scenario.specs.declared.op.Op.{Op}
+use Rattle.scenario.specs.declared.op.Op.TheVariants.{Abort, End}
+use Rattle.vss_model.specs.Acts.{Act, state, after, order_of_writer}
 use Rattle.vss_model.specs.Causes.{is_refused, is_late, is_flush_step, is_fault, owns}
+use Rattle.vss_model.specs.Effects.{ended, ticks_of}
+use Rattle.vss_model.specs.State.{SetRow, row_of, in_progress, is_running, State, is_complete, left_now}
+use Rattle.vss_model.specs.Trail.{acts}
+use Rattle.vss_model.specs.declared.event.Event.TheVariants.{Line, Answer as AnswerEvent, Provider}
 use Rattle.promises.specs.Failing.{HasNoSlot}
+
+-- ## No volume is twice in a set. (As with the SDK's AddToSnapshotSet.)
+
+abbrev pub VolumesAreDistinct : Plan → List Act → Type 0
+VolumesAreDistinct s so_far = (n : ℕ) (r : SetRow) → row_of (state s so_far) n ≡ Some r → are_distinct r.volumes ≡ true
+
+-- ## Which set is told as ended: the one that was in progress before the act and is over after it, as it is then; in no other act is one told.
+-- (This project's own.)
+
+pub record TellsTheEnd (s : Plan) (so_far : List Act) (act : Act) : Type 0 where
+  pub over : (r q : SetRow) → in_progress (state s so_far) ≡ Some r → row_of (after s (state s so_far) act) r.number ≡ Some q → is_running q.result ≡ false
+      → ended s (state s so_far) act ≡ Some q
+  pub goes_on : (r q : SetRow) → in_progress (state s so_far) ≡ Some r → row_of (after s (state s so_far) act) r.number ≡ Some q → is_running q.result ≡ true
+      → ended s (state s so_far) act ≡ None
+  pub no_other : in_progress (state s so_far) ≡ None → ended s (state s so_far) act ≡ None
+
+-- ## How sets go on and end. A set that was started keeps its row, whatever comes; at the end of a complete trail it is complete or has
+-- failed; and where nothing disturbs it while it is in progress, it is complete. (That a set which nobody refuses and nothing stops
+-- completes is what the SDK's DoSnapshotSet is called for; what counts as a disturbance is this project's own.)
 
 -- ## rows
 

@@ -9,7 +9,7 @@ use Rattle.scenario.specs.Plan.{Plan}
 use Rattle.vss_model.specs.State.{SetRow, in_progress, row_of, history_of, is_held, is_frozen}
 use Rattle.vss_model.specs.Acts.{Act, state}
 use Rattle.vss_model.specs.Facts.{has_failed}
-use Rattle.vss_model.specs.GoesOn.{most_moves}
+use Rattle.vss_model.specs.Turns.{most_moves}
 use Rattle.vss_model.specs.Headline.{MakesEachLineOnce, ReadsAsAtTheCut, LeavesNothing, IsHeldForSet, IsFrozenForSet, KeepsSet}
 use Rattle.vss_model.specs.Trail.{acts}
 use Rattle.promises.specs.Ends.{EndsEachSet, CompletesWhereCalm}

@@ -16,11 +16,10 @@ use Rattle.scenario.specs.declared.op.Op.TheVariants.{Gather, Prepare, Complete}
 use Rattle.scenario.specs.Plan.{Plan}
 use Rattle.vss_model.specs.declared.event.Event.{Event}
 use Rattle.vss_model.specs.declared.event.Event.TheVariants.{Line}
-use Rattle.vss_model.specs.Reply.{Reply}
-use Rattle.vss_model.specs.Ending.{runs}
+use Rattle.vss_model.specs.Reply.{Reply, is_pending}
+use Rattle.vss_model.specs.Steps.{runs}
 use Rattle.vss_model.specs.Acts.{Act, enabled, reply, after, state}
-use Rattle.vss_model.specs.Replies.{is_pending}
-use Rattle.promises.specs.InOrder.{Step, ByGather, ByPrepare, ByComplete, is_step, progress}
+use Rattle.promises.specs.Accepted.{Step, ByGather, ByPrepare, ByComplete, is_step, progress}
 use Rattle.promises.specs.Participants.{is_writer, is_chosen, is_unfit, choosing}
 use Rattle.promises.specs.Way.{Deed, Spoke, Made, deeds_of}
 

@@ -4,45 +4,22 @@ use Rattle.write_history.specs.declared.move_item.Move.{Move}
 use Rattle.scenario.specs.Plan.{Plan}
 use Rattle.vss_model.specs.Acts.{Act}
 use Rattle.vss_model.specs.Trail.{acts}
-use Rattle.promises.specs.Accepted.{AcceptsInOrder}
+use Rattle.promises.specs.Accepted.{AcceptsInOrder, HasItsContext}
 use Rattle.promises.specs.Answers.{AnswersSay}
-use Rattle.promises.specs.Asked.{AsksItsOwn}
-use Rattle.promises.specs.Awaited.{AwaitTells}
-use Rattle.promises.specs.Calls.{CallsAreOwned, WaitsAreFew, WaitsAreDue, StandsQuiet, FrozenDoNotWrite}
-use Rattle.promises.specs.Clock.{ClockMoves}
-use Rattle.promises.specs.Closing.{ClosesAsKept}
-use Rattle.promises.specs.Codes.{FailsByCode}
-use Rattle.promises.specs.Completing.{CompletesUnfailed}
+use Rattle.promises.specs.Participants.{AsksItsOwn, CompletesUnfailed, LosesTheLate, ChosenTakePart, TakesPart}
+use Rattle.promises.specs.Awaited.{AwaitTells, FailsByCode}
+use Rattle.promises.specs.Calls.{CallsAreOwned, WaitsAreFew, WaitsAreDue, StandsQuiet, FrozenDoNotWrite, MarksAreDue, RefusalsChangeNothing}
+use Rattle.promises.specs.Clock.{ClockMoves, IdlesShortest, HasItsNumbers, OrdersEnd, StandsWithinLimits}
+use Rattle.promises.specs.Replies.{ClosesAsKept, FindsTheKept, RepliesTell}
 use Rattle.promises.specs.Contents.{ContentsChange}
-use Rattle.promises.specs.ContextZero.{BackupsEnd}
-use Rattle.promises.specs.Copies.{CopiesHold, KeepsCopies}
-use Rattle.promises.specs.CutStep.{CutsAtTheStep}
-use Rattle.promises.specs.Done.{IsDone}
-use Rattle.promises.specs.Ended.{TellsTheEnd}
-use Rattle.promises.specs.Ends.{KeepsRows}
-use Rattle.promises.specs.Evicted.{TellsEvicted}
+use Rattle.promises.specs.Gone.{BackupsEnd, IsDone, TellsEvicted, ImagesGoForCause}
+use Rattle.promises.specs.Copies.{CopiesHold, KeepsCopies, PropertiesTell, SlotsSuffice}
+use Rattle.promises.specs.Way.{CutsAtTheStep, StepsInTurn, StandsStill, CompletesByTheWay}
+use Rattle.promises.specs.Ends.{TellsTheEnd, KeepsRows, VolumesAreDistinct}
 use Rattle.promises.specs.Failing.{WritesFailForSlots}
-use Rattle.promises.specs.Gone.{ImagesGoForCause}
-use Rattle.promises.specs.Idle.{IdlesShortest}
-use Rattle.promises.specs.InOrder.{HasItsContext}
-use Rattle.promises.specs.InTurn.{StepsInTurn}
-use Rattle.promises.specs.Kept.{FindsTheKept}
-use Rattle.promises.specs.Lost.{LosesTheLate}
-use Rattle.promises.specs.Marks.{MarksAreDue}
-use Rattle.promises.specs.Numbers.{HasItsNumbers}
-use Rattle.promises.specs.Participants.{ChosenTakePart, TakesPart}
-use Rattle.promises.specs.Properties.{PropertiesTell}
-use Rattle.promises.specs.Refused.{RefusalsChangeNothing}
 use Rattle.promises.specs.Refusing.{RefusesForCause}
-use Rattle.promises.specs.Replies.{RepliesTell}
 use Rattle.promises.specs.Rows.{RowsChange}
 use Rattle.promises.specs.Scripted.{AnswersByScript}
-use Rattle.promises.specs.Sets.{VolumesAreDistinct}
-use Rattle.promises.specs.Slots.{SlotsSuffice}
-use Rattle.promises.specs.Still.{StandsStill}
-use Rattle.promises.specs.Unanswered.{OrdersEnd}
-use Rattle.promises.specs.Way.{CompletesByTheWay}
-use Rattle.promises.specs.Within.{StandsWithinLimits}
 use Rattle.promises.specs.Documented.{TellsDocument}
 use Rattle.promises.specs.Owed.{NobodyOwes}
 

@@ -11,15 +11,13 @@ use Rattle.scenario.specs.declared.op.Op.{Op}
 use Rattle.scenario.specs.declared.op.Op.TheVariants.{Begin, Component, Start, Add, Abort, End}
 use Rattle.scenario.specs.Plan.{Plan, token}
 use Rattle.vss_model.specs.declared.event.Event.TheVariants.{Line}
-use Rattle.vss_model.specs.Reply.{Reply, Coded, NotSelectable}
+use Rattle.vss_model.specs.Reply.{Reply, Coded, NotSelectable, is_fine}
 use Rattle.vss_model.specs.State.{State, SetRow, in_progress}
-use Rattle.vss_model.specs.Ending.{runs}
+use Rattle.vss_model.specs.Steps.{runs}
 use Rattle.vss_model.specs.Sessions.{known_metas}
 use Rattle.vss_model.specs.Causes.{owns}
 use Rattle.vss_model.specs.Acts.{Act, reply, state}
-use Rattle.vss_model.specs.Replies.{is_fine}
-use Rattle.promises.specs.Accepted.{is_ordered, is_accepted}
-use Rattle.promises.specs.InOrder.{Progress, progress, comes_now}
+use Rattle.promises.specs.Accepted.{is_ordered, is_accepted, Progress, progress, comes_now}
 
 -- ## what a call wants
 

@@ -11,8 +11,7 @@ use Rattle.vss_names.specs.declared.writer_state.WriterState.TheVariants.{Unknow
 use Rattle.writer_state.specs.declared.said.Said.{Said}
 use Rattle.writer_state.specs.declared.said.Said.TheVariants.{Ok, Veto, Lost}
 use Rattle.writer_state.specs.declared.writer_row.WriterRow.{WriterRow}
-use Rattle.writer_state.specs.WriterState.{is_failed}
-use Rattle.writer_state.specs.WriterRow.{one_more}
+use Rattle.writer_state.specs.WriterState.{is_failed, one_more}
 use Rattle.writer_calls.specs.Script.{said_of}
 use Rattle.set_agenda.specs.Agenda.{is_among}
 use Rattle.set_agenda.specs.Course.{is_member}
@@ -20,12 +19,11 @@ use Rattle.scenario.specs.declared.op.Op.TheVariants.{Gather, End}
 use Rattle.scenario.specs.Plan.{Plan}
 use Rattle.vss_model.specs.declared.event.Event.{Event}
 use Rattle.vss_model.specs.declared.event.Event.TheVariants.{Line, Answer as AnswerEvent}
-use Rattle.vss_model.specs.Reply.{Reply}
+use Rattle.vss_model.specs.Reply.{Reply, is_fine, is_pending}
 use Rattle.vss_model.specs.State.{State, SetRow, in_progress, row_of}
 use Rattle.vss_model.specs.Acts.{Act, enabled, order_of_writer, reply, after, state}
 use Rattle.vss_model.specs.Effects.{lost}
 use Rattle.vss_model.specs.Facts.{has_failed}
-use Rattle.vss_model.specs.Replies.{is_fine, is_pending}
 
 -- ## whether the set in progress fails
 

@@ -1,30 +1,34 @@
--- The way to completion: what writers said and the provider made since the `snapshot` line, as the acts tell it, in order.
--- A set completes only where that is the whole sequence of a snapshot, each part once. (The sequence is that of the SDK's
--- overview of shadow copy creation; the order of the Thaw levels is this project's own.)
-use Rattle.std.specs.Prelude.{ℕ, ◌≡◌, ◌≤◌, ◌==◌, Bool, true, false, List, [], ◌∷◌, ◌++◌, map, ◌&&◌, not, if◌then◌else◌, Option, Some, None, slice_get}
+-- The way to completion: the sequence of deeds since the `snapshot` line, its steps in turn, its one cut, and what is held and frozen on it.
 use Rattle.std.specs.List.{list_any}
+use Rattle.std.specs.Prelude.{ℕ, ◌≡◌, ◌≤◌, ◌==◌, Bool, true, false, List, [], ◌∷◌, ◌++◌, map, ◌&&◌, not, if◌then◌else◌, Option, Some, None, slice_get, ◌||◌}
 use Rattle.vss_names.specs.declared.level.Level.{Level}
 use Rattle.vss_names.specs.declared.level.Level.TheVariants.{System, BackEnd, FrontEnd}
 use Rattle.vss_names.specs.declared.order.Order.{Order}
 use Rattle.vss_names.specs.declared.order.Order.TheVariants.{Identify, PrepareBackup, PrepareSnapshot, Freeze, Thaw, PostSnapshot, BackupComplete}
+use Rattle.writer_state.specs.WriterState.{is_ok}
 use Rattle.writer_state.specs.declared.said.Said.{Said}
 use Rattle.writer_state.specs.declared.said.Said.TheVariants.{Lost}
-use Rattle.writer_state.specs.WriterState.{is_ok}
-use Rattle.writer_calls.specs.Script.{said_of}
+use Rattle.set_agenda.specs.Agenda.{same_order, group_code, is_among}
+use Rattle.set_agenda.specs.Course.{is_member}
 use Rattle.set_agenda.specs.declared.group.Group.{Group}
 use Rattle.set_agenda.specs.declared.group.Group.TheVariants.{Orders, PreCommit, Flush, Hold, Cut, Commit, Release, PostCommit}
 use Rattle.set_agenda.specs.declared.member.Member.{Member}
-use Rattle.set_agenda.specs.Agenda.{same_order, group_code, is_among}
-use Rattle.set_agenda.specs.Course.{is_member}
-use Rattle.scenario.specs.declared.op.Op.TheVariants.{Snapshot}
+use Rattle.writer_calls.specs.Script.{said_of}
 use Rattle.scenario.specs.Plan.{Plan, WriterPlan}
-use Rattle.vss_model.specs.declared.event.Event.{Event}
-use Rattle.vss_model.specs.declared.event.Event.TheVariants.{Line, Answer as AnswerEvent, Provider, Idle}
-use Rattle.vss_model.specs.Reply.{Reply, Answered, Stepped}
-use Rattle.vss_model.specs.State.{State, SetRow, start, is_complete, in_progress, row_of}
+use Rattle.scenario.specs.declared.op.Op.TheVariants.{Snapshot}
 use Rattle.vss_model.specs.Acts.{Act, enabled, reply, after, state}
+use Rattle.vss_model.specs.Cut.{cut}
 use Rattle.vss_model.specs.Effects.{lost, lost_order}
-use Rattle.vss_model.specs.Replies.{is_pending}
+use Rattle.vss_model.specs.Steps.{runs}
+use Rattle.vss_model.specs.Reply.{is_pending, Reply, Answered, Stepped}
+use Rattle.vss_model.specs.State.{State, SetRow, start, is_complete, in_progress, row_of, is_held, is_frozen}
+use Rattle.vss_model.specs.declared.event.Event.{Event}
+use Rattle.vss_model.specs.declared.event.Event.TheVariants.{Line, Answer as AnswerEvent, Provider, Idle, Answer}
+use Rattle.promises.specs.Accepted.{BySnapshot, is_step, progress}
+
+-- ## The way to completion: what writers said and the provider made since the `snapshot` line, as the acts tell it, in order.
+-- A set completes only where that is the whole sequence of a snapshot, each part once. (The sequence is that of the SDK's
+-- overview of shadow copy creation; the order of the Thaw levels is this project's own.)
 
 -- ## what acts tell
 
@@ -206,3 +210,47 @@ pub record IsWholeWay (s : Plan) (participants : List Member) (volumes : List �
 abbrev pub CompletesByTheWay : Plan → List Act → Act → Type 0
 CompletesByTheWay s so_far act = (r q : SetRow) → in_progress (state s so_far) ≡ Some r → row_of (after s (state s so_far) act) r.number ≡ Some q → is_complete q.result ≡ true
     → IsWholeWay s (state s so_far).course.members r.volumes (way s (so_far ++ act ∷ []))
+
+-- ## The volumes of a set come in the order of their `add`: a step of the provider on a volume comes only when the same step was made on each
+-- volume that was added before it. (The order is this project's own.)
+
+-- u comes in this list before the first v
+abbrev pub is_before : ℕ → ℕ → List ℕ → Bool
+is_before u v [] = false
+is_before u v (w ∷ ws) = if w == v then false else (w == u) || is_before u v ws
+
+abbrev pub StepsInTurn : Plan → List Act → Act → Type 0
+StepsInTurn s so_far act = (g : Group) (u v : ℕ) (fault : Bool) (r : SetRow) → act.event ≡ Provider → reply s (state s so_far) act ≡ Stepped g (Some v) fault
+    → in_progress (state s so_far) ≡ Some r → is_before u v r.volumes ≡ true → made g (Some u) (way s so_far) ≡ true
+
+-- ## Where a set is cut: in the act that the provider is answered as the Cut step of the set in progress, and in no other. (This project's own.)
+
+abbrev pub is_cut_reply : Reply → Bool
+is_cut_reply (Stepped Cut v fault) = true
+is_cut_reply _ = false
+
+-- set n is in progress
+abbrev pub is_number : ℕ → Option SetRow → Bool
+is_number n None = false
+is_number n (Some r) = r.number == n
+
+pub record CutsAtTheStep (s : Plan) (so_far : List Act) (act : Act) : Type 0 where
+  pub step : (n : ℕ) → act.event ≡ Provider
+      → cut s n (so_far ++ act ∷ []) ≡ (if is_cut_reply (reply s (state s so_far) act) && is_number n (in_progress (state s so_far)) then Some so_far else cut s n so_far)
+  pub line : (n lane : ℕ) (op : _) → act.event ≡ Line lane op → cut s n (so_far ++ act ∷ []) ≡ cut s n so_far
+  pub answer : (n w : ℕ) (a : _) → act.event ≡ Answer w a → cut s n (so_far ++ act ∷ []) ≡ cut s n so_far
+  pub idle : (n : ℕ) → act.event ≡ Idle → cut s n (so_far ++ act ∷ []) ≡ cut s n so_far
+
+-- ## How long volumes are held and writers stand frozen: while the agenda of `snapshot` runs, a volume from its Hold step to its Release
+-- step, and a writer from its ok to Freeze until it is heard at Thaw. At no other time is a volume held, or does a writer stand frozen.
+-- (Freeze, thaw and the hold of writes are the SDK's; that each ends by its own step is this project's own.)
+
+-- the agenda runs that the session's `snapshot` began
+abbrev pub takes_snapshot : Plan → List Act → Bool
+takes_snapshot s so_far = runs (state s so_far) && is_step (progress s so_far).step BySnapshot
+
+pub record StandsStill (s : Plan) (so_far : List Act) : Type 0 where
+  pub held : (v : ℕ) → is_held (state s so_far) v
+      ≡ (takes_snapshot s so_far && (made Hold (Some v) (way s so_far) && not (made Release (Some v) (way s so_far))))
+  pub frozen : (w : ℕ) → is_frozen (state s so_far) w
+      ≡ (takes_snapshot s so_far && (agreed Freeze w (way s so_far) && not (heard Thaw w (way s so_far))))

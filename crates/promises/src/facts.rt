@@ -12,7 +12,7 @@ ghost use Rattle.component_doc.specs.Over.{IsSelectedOver};
 ghost use Rattle.vss_model.specs.Sessions.{most_images, known_metas, has_failed_identify};
 ghost use Rattle.set_agenda.specs.Limits.{spent_of};
 ghost use Rattle.set_agenda.specs.Course.{is_member, limits_now};
-ghost use Rattle.vss_model.specs.Ending.{runs};
+ghost use Rattle.vss_model.specs.Steps.{runs};
 ghost use Rattle.vss_model.specs.State.{State, SetRow, in_progress, row_of, history_of, has_image, left_now, is_held, is_frozen};
 ghost use Rattle.vss_model.specs.Cut.{cut, is_cut_group, IsShownAt, IsCutAt};
 ghost use Rattle.requestor.specs.declared.stage.Stage.TheVariants.{Opened};
@@ -22,9 +22,8 @@ ghost use Rattle.vss_model.specs.Facts.{IsNewest, IsOrderly, has_failed, holds_f
 ghost use Rattle.vss_model.specs.Acts.{Act, after, state, order_of_writer, idle_now};
 ghost use Rattle.vss_model.specs.Trail.{run, moved, acts, acts_if, event_of, is_legal, is_legal_move, is_complete, cursor, faults};
 ghost use Rattle.scenario.specs.Bounds.{IsPlan, has_end};
-ghost use Rattle.vss_model.specs.GoesOn.{EndsSessions, CanGoOn, most_moves};
+ghost use Rattle.vss_model.specs.Turns.{EndsSessions, CanGoOn, most_moves, turns_left};
 ghost use Rattle.vss_model.specs.Headline.{ReadsAsAtTheCut, LeavesNothing, IsHeldForSet, IsFrozenForSet, KeepsSet, MakesEachLineOnce};
-ghost use Rattle.vss_model.specs.Turns.{turns_left};
 ghost use Rattle.vss_model.specs.Laws.{IsKeptByChanges, IsKeptByWrites, Passes, RunsSnapshot};
 
 /// One more act, or one more move, adds to a run just what it is itself.
@@ -82,7 +81,7 @@ pub fn image_shows_the_cut()
 {}
 
 /// While a volume of the set in progress is held, no act changes its effective writes.
-#[tactic(auto, using(vss_model::proofs::HeldWrites::held_keeps))]
+#[tactic(auto, using(vss_model::proofs::Volumes::held_keeps))]
 pub fn held_volume_keeps_its_writes()
     ensures { (s : Plan) (acts : List Act) (act : Act) (r : SetRow) (v : ℕ) → in_progress (state s acts) ≡ Some r
         → is_among v r.volumes ≡ true → is_held (state s acts) v ≡ true
@@ -97,7 +96,7 @@ pub fn images_in_time()
 {}
 
 /// The image of the set in progress is the newest of its volume.
-#[tactic(auto, using(vss_model::proofs::NewestImage::newest_image))]
+#[tactic(auto, using(vss_model::proofs::HeldImage::newest_image))]
 pub fn image_in_progress_is_the_newest()
     ensures { (s : Plan) (acts : List Act) (r : SetRow) (v p : ℕ) → in_progress (state s acts) ≡ Some r
         → point_in r.number (history_of (state s acts) v).images ≡ Some p
@@ -107,11 +106,13 @@ pub fn image_in_progress_is_the_newest()
 /// A volume of the set in progress has no image of it before its Commit step, and has one as soon as that step is made.
 #[tactic(auto, using(vss_model::proofs::OneCut::no_image_yet, vss_model::proofs::Completed::image_once_made))]
 pub fn images_come_at_commit()
-    ensures before { (s : Plan) (acts : List Act) (r : SetRow) (a : Agenda) (v : ℕ) → in_progress (state s acts) ≡ Some r
-        → (state s acts).course.agenda ≡ Some a → has_said a.log (plain Commit) v ≡ false
+    ensures before { (s : Plan) (acts : List Act) (r : SetRow) (a : Agenda) (v : ℕ)
+        → in_progress (state s acts) ≡ Some r → (state s acts).course.agenda ≡ Some a
+        → has_said a.log (plain Commit) v ≡ false
         → has_image r.number (history_of (state s acts) v) ≡ false }
-    ensures after { (s : Plan) (acts : List Act) (r : SetRow) (a : Agenda) (v : ℕ) → in_progress (state s acts) ≡ Some r
-        → (state s acts).course.agenda ≡ Some a → has_said a.log (plain Commit) v ≡ true → is_among v r.volumes ≡ true
+    ensures after { (s : Plan) (acts : List Act) (r : SetRow) (a : Agenda) (v : ℕ)
+        → in_progress (state s acts) ≡ Some r → (state s acts).course.agenda ≡ Some a
+        → has_said a.log (plain Commit) v ≡ true → is_among v r.volumes ≡ true
         → v < length s.volumes → has_image r.number (history_of (state s acts) v) ≡ true }
 {}
 
@@ -134,21 +135,21 @@ pub fn state_in_order()
 {}
 
 /// Of a set that has failed no image stands, on any volume.
-#[tactic(auto, using(vss_model::proofs::Failures::failed_keeps_nothing))]
+#[tactic(auto, using(vss_model::proofs::Headline::failed_keeps_nothing))]
 pub fn failed_set_keeps_no_image()
     ensures { (s : Plan) (acts : List Act) (n v : ℕ) (r : SetRow) → row_of (state s acts) n ≡ Some r
         → has_failed r.result ≡ true → point_in n (history_of (state s acts) v).images ≡ None }
 {}
 
 /// For a set that has failed no copy of an overwritten block is kept, in any area, whichever volumes share it.
-#[tactic(auto, using(vss_model::proofs::Failures::failed_has_no_copy))]
+#[tactic(auto, using(vss_model::proofs::Headline::failed_has_no_copy))]
 pub fn failed_set_keeps_no_copy()
     ensures { (s : Plan) (acts : List Act) (n : ℕ) (r : SetRow) (group : List Placed) → row_of (state s acts) n ≡ Some r
         → has_failed r.result ≡ true → holds_for n (copies group (state s acts).volumes) ≡ false }
 {}
 
 /// Before its Cut each volume of the set in progress has room for one more image.
-#[tactic(auto, using(vss_model::proofs::RoomForImage::room_before_cut, vss_model::proofs::RoomForImage::room_at_cut))]
+#[tactic(auto, using(vss_model::proofs::HeldImage::room_before_cut, vss_model::proofs::HeldImage::room_at_cut))]
 pub fn room_for_an_image_until_the_cut()
     ensures before { (s : Plan) (acts : List Act) (r : SetRow) (v : ℕ) → in_progress (state s acts) ≡ Some r
         → cut s r.number acts ≡ None → is_among v r.volumes ≡ true → length (history_of (state s acts) v).images < most_images }
@@ -157,7 +158,7 @@ pub fn room_for_an_image_until_the_cut()
 {}
 
 /// While the Hold group is open the Cut step is not made, and nothing is said of a Release.
-#[tactic(auto, using(vss_model::proofs::HoldOpen::uncut_at_hold, vss_model::proofs::HoldOpen::unreleased_at_hold))]
+#[tactic(auto, using(vss_model::proofs::Spoken::uncut_at_hold, vss_model::proofs::Spoken::unreleased_at_hold))]
 pub fn hold_comes_before_cut_and_release()
     ensures cut { (s : Plan) (acts : List Act) (a : Agenda) → open_group (left_now (state s acts)) ≡ Some Hold
         → (state s acts).course.agenda ≡ Some a → has_said a.log (plain Cut) 0 ≡ false }
@@ -176,7 +177,7 @@ pub fn named_components_are_known()
 {}
 
 /// While no set is in progress, no volume is held and no writer stands frozen.
-#[tactic(auto, using(vss_model::proofs::Failures::none_held, vss_model::proofs::Failures::none_frozen))]
+#[tactic(auto, using(vss_model::proofs::Headline::none_held, vss_model::proofs::Headline::none_frozen))]
 pub fn free_without_a_set()
     ensures held { (s : Plan) (acts : List Act) (v : ℕ) → in_progress (state s acts) ≡ None
         → is_held (state s acts) v ≡ false }
@@ -241,7 +242,7 @@ pub fn each_line_is_made_once()
 {}
 
 /// At the end of a legal and complete trail no set is in progress: each that was started is complete or has failed.
-#[tactic(auto, using(vss_model::proofs::Ended::complete_ends))]
+#[tactic(auto, using(vss_model::proofs::Headline::complete_ends))]
 pub fn complete_trail_ends_each_set()
     ensures { (s : Plan) (trail : List Move) → IsPlan s → is_legal s trail ≡ true → is_complete s trail ≡ true
         → in_progress (state s (acts s trail)) ≡ None }

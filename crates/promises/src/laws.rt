@@ -6,47 +6,24 @@ ghost use Rattle.scenario.specs.Plan.{Plan};
 ghost use Rattle.scenario.specs.Bounds.{IsPlan};
 ghost use Rattle.vss_model.specs.Acts.{Act};
 ghost use Rattle.vss_model.specs.Trail.{is_legal, is_complete};
-ghost use Rattle.promises.specs.Accepted.{AcceptsInOrder};
+ghost use Rattle.promises.specs.Accepted.{AcceptsInOrder, HasItsContext};
 ghost use Rattle.promises.specs.Answers.{AnswersSay};
-ghost use Rattle.promises.specs.Asked.{AsksItsOwn};
-ghost use Rattle.promises.specs.Awaited.{AwaitTells};
-ghost use Rattle.promises.specs.Calls.{CallsAreOwned, WaitsAreFew, WaitsAreDue, StandsQuiet, FrozenDoNotWrite};
-ghost use Rattle.promises.specs.Clock.{ClockMoves};
-ghost use Rattle.promises.specs.Closing.{ClosesAsKept};
-ghost use Rattle.promises.specs.Codes.{FailsByCode};
-ghost use Rattle.promises.specs.Completing.{CompletesUnfailed};
+ghost use Rattle.promises.specs.Participants.{AsksItsOwn, CompletesUnfailed, LosesTheLate, ChosenTakePart, TakesPart};
+ghost use Rattle.promises.specs.Awaited.{AwaitTells, FailsByCode};
+ghost use Rattle.promises.specs.Calls.{CallsAreOwned, WaitsAreFew, WaitsAreDue, StandsQuiet, FrozenDoNotWrite, MarksAreDue, RefusalsChangeNothing};
+ghost use Rattle.promises.specs.Clock.{ClockMoves, IdlesShortest, HasItsNumbers, OrdersEnd, StandsWithinLimits};
+ghost use Rattle.promises.specs.Replies.{ClosesAsKept, FindsTheKept, RepliesTell};
 ghost use Rattle.promises.specs.Contents.{ContentsChange};
-ghost use Rattle.promises.specs.ContextZero.{BackupsEnd};
-ghost use Rattle.promises.specs.Copies.{CopiesHold, KeepsCopies};
-ghost use Rattle.promises.specs.CutStep.{CutsAtTheStep};
-ghost use Rattle.promises.specs.Done.{IsDone};
-ghost use Rattle.promises.specs.Ended.{TellsTheEnd};
-ghost use Rattle.promises.specs.Ends.{KeepsRows, EndsEachSet, CompletesWhereCalm};
-ghost use Rattle.promises.specs.Evicted.{TellsEvicted};
+ghost use Rattle.promises.specs.Gone.{BackupsEnd, IsDone, TellsEvicted, ImagesGoForCause};
+ghost use Rattle.promises.specs.Copies.{CopiesHold, KeepsCopies, PropertiesTell, SlotsSuffice};
+ghost use Rattle.promises.specs.Way.{CutsAtTheStep, StepsInTurn, StandsStill, CompletesByTheWay};
+ghost use Rattle.promises.specs.Ends.{TellsTheEnd, KeepsRows, EndsEachSet, CompletesWhereCalm, VolumesAreDistinct};
 ghost use Rattle.promises.specs.Failing.{FailsForCause, WritesFailForSlots};
-ghost use Rattle.promises.specs.Gone.{ImagesGoForCause};
 ghost use Rattle.promises.specs.Headline.{Headline};
-ghost use Rattle.promises.specs.Idle.{IdlesShortest};
-ghost use Rattle.promises.specs.InOrder.{HasItsContext};
-ghost use Rattle.promises.specs.InTurn.{StepsInTurn};
-ghost use Rattle.promises.specs.Kept.{FindsTheKept};
-ghost use Rattle.promises.specs.Lost.{LosesTheLate};
-ghost use Rattle.promises.specs.Marks.{MarksAreDue};
-ghost use Rattle.promises.specs.Numbers.{HasItsNumbers};
-ghost use Rattle.promises.specs.Participants.{ChosenTakePart, TakesPart};
 ghost use Rattle.promises.specs.Promises.{IsAsPromised};
-ghost use Rattle.promises.specs.Properties.{PropertiesTell};
-ghost use Rattle.promises.specs.Refused.{RefusalsChangeNothing};
 ghost use Rattle.promises.specs.Refusing.{RefusesForCause};
-ghost use Rattle.promises.specs.Replies.{RepliesTell};
 ghost use Rattle.promises.specs.Rows.{RowsChange};
 ghost use Rattle.promises.specs.Scripted.{AnswersByScript};
-ghost use Rattle.promises.specs.Sets.{VolumesAreDistinct};
-ghost use Rattle.promises.specs.Slots.{SlotsSuffice};
-ghost use Rattle.promises.specs.Still.{StandsStill};
-ghost use Rattle.promises.specs.Unanswered.{OrdersEnd};
-ghost use Rattle.promises.specs.Way.{CompletesByTheWay};
-ghost use Rattle.promises.specs.Within.{StandsWithinLimits};
 ghost use Rattle.promises.specs.Documented.{TellsDocument};
 ghost use Rattle.promises.specs.Owed.{NobodyOwes};
 
@@ -69,37 +46,37 @@ pub fn writes_tell_the_evicted()
 {}
 
 /// A copy that an area keeps holds its block as it was at the one cut of its set.
-#[tactic(auto, using(crate::proofs::Copies::copies_hold))]
+#[tactic(auto, using(crate::proofs::Contents::copies_hold))]
 pub fn copies_hold_the_cut()
     ensures { (s : Plan) (so_far : List Act) → CopiesHold s so_far }
 {}
 
 /// A set is cut in the act that is answered as its Cut step, and in no other.
-#[tactic(auto, using(crate::proofs::CutStep::cuts_at_the_step))]
+#[tactic(auto, using(crate::proofs::CutTimes::cuts_at_the_step))]
 pub fn sets_are_cut_at_their_step()
     ensures { (s : Plan) (so_far : List Act) (act : Act) → CutsAtTheStep s so_far act }
 {}
 
 /// The closing lines of a volume show the copies that its area keeps of it, and the images that `query` lists.
-#[tactic(auto, using(crate::proofs::Closing::closes_as_kept))]
+#[tactic(auto, using(crate::proofs::Replies::closes_as_kept))]
 pub fn closing_lines_show_what_is_kept()
     ensures { (s : Plan) (so_far : List Act) → ClosesAsKept s so_far }
 {}
 
 /// A step on a volume comes only when the same step was made on each volume that was added before it.
-#[tactic(auto, using(crate::proofs::InTurn::steps_in_turn))]
+#[tactic(auto, using(crate::proofs::Once::steps_in_turn))]
 pub fn steps_are_made_in_turn()
     ensures { (s : Plan) (so_far : List Act) (act : Act) → StepsInTurn s so_far act }
 {}
 
 /// The set that is told as ended is the one that was in progress and is over after the act.
-#[tactic(auto, using(crate::proofs::Ended::tells_the_end))]
+#[tactic(auto, using(crate::proofs::Replies::tells_the_end))]
 pub fn the_set_that_ends_is_told()
     ensures { (s : Plan) (so_far : List Act) (act : Act) → TellsTheEnd s so_far act }
 {}
 
 /// A move may have a fault mark only if a device is called in it: a write, a read, an image that is kept, a flush, or a revert.
-#[tactic(auto, using(crate::proofs::Marks::marks_are_due))]
+#[tactic(auto, using(crate::proofs::Moves::marks_are_due))]
 pub fn devices_fail_where_they_are_called()
     ensures { (s : Plan) (so_far : List Act) → MarksAreDue s so_far }
 {}
@@ -112,7 +89,7 @@ pub fn no_failed_writer_is_told_of_completion()
 /// Exactly those writers take part that the accepted `prepare` of the session has chosen: those of which the session has named a component
 /// since its `begin`; or, where it takes all, those that are not of a disabled class and do not stand as failed at Identify. None is of a
 /// disabled class, nobody takes part before, and no other act changes who does while a set is in progress.
-#[tactic(auto, using(crate::proofs::Participants::chosen_take_part, crate::proofs::Prepares::takes_part))]
+#[tactic(auto, using(crate::proofs::Participants::chosen_take_part, crate::proofs::Participants::takes_part))]
 pub fn the_chosen_take_part()
     ensures prepared { (s : Plan) (so_far : List Act) (act : Act) → TakesPart s so_far act }
     ensures standing { (s : Plan) (so_far : List Act) → ChosenTakePart s so_far }
@@ -131,7 +108,7 @@ pub fn images_fit_their_slots()
 {}
 
 /// No volume is twice in a set.
-#[tactic(auto, using(crate::proofs::Sets::volumes_are_distinct))]
+#[tactic(auto, using(crate::proofs::SetRows::volumes_are_distinct))]
 pub fn volumes_are_once_in_a_set()
     ensures { (s : Plan) (so_far : List Act) → VolumesAreDistinct s so_far }
 {}
@@ -149,7 +126,7 @@ pub fn sets_fail_with_the_code_of_their_cause()
 {}
 
 /// A write fails the set in progress exactly where it finds no slot unless the set's own image goes.
-#[tactic(auto, using(crate::proofs::OwnSlots::writes_fail_for_slots))]
+#[tactic(auto, using(crate::proofs::Failing::writes_fail_for_slots))]
 pub fn writes_fail_sets_for_slots()
     ensures { (s : Plan) (so_far : List Act) (act : Act) → WritesFailForSlots s so_far act }
 {}
@@ -161,14 +138,14 @@ pub fn sets_keep_their_rows()
 {}
 
 /// In a legal and complete trail each set that was started ends: it is complete, or it has failed.
-#[tactic(auto, using(crate::proofs::Ends::ends_each_set))]
+#[tactic(auto, using(crate::proofs::Headline::ends_each_set))]
 pub fn each_set_ends()
     ensures { (s : Plan) (trail : List Move) → IsPlan s → is_legal s trail ≡ true → is_complete s trail ≡ true → EndsEachSet s trail }
 {}
 
 /// In a legal and complete trail a set in progress that nothing disturbs completes: no writer vetoes what needs its consent, no limit is
 /// outrun, no device fails a flush, no image of the set goes for want of a slot, and its owner calls neither `abort` nor `end`.
-#[tactic(auto, using(crate::proofs::Ends::complete_where_calm))]
+#[tactic(auto, using(crate::proofs::Headline::complete_where_calm))]
 pub fn calm_sets_complete()
     ensures { (s : Plan) (trail : List Move) → IsPlan s → is_legal s trail ≡ true → is_complete s trail ≡ true
         → CompletesWhereCalm s trail }
@@ -176,13 +153,13 @@ pub fn calm_sets_complete()
 
 /// Lines find exactly the images that are kept; a revert is refused only for an image that is not, for one of context 0 or for a volume of
 /// the set in progress, by a code each; and a deletion only where nothing of what it names is kept.
-#[tactic(auto, using(crate::proofs::Kept::finds_the_kept))]
+#[tactic(auto, using(crate::proofs::Refusals::finds_the_kept))]
 pub fn lines_find_what_is_kept()
     ensures { (s : Plan) (so_far : List Act) (act : Act) → FindsTheKept s so_far act }
 {}
 
 /// After a `delete` what it names is gone, and after a revert the images of later sets on its volume are.
-#[tactic(auto, using(crate::proofs::Done::is_done))]
+#[tactic(auto, using(crate::proofs::ContextZero::is_done))]
 pub fn what_is_asked_is_done()
     ensures { (s : Plan) (so_far : List Act) (act : Act) → IsDone s so_far act }
 {}
@@ -195,13 +172,13 @@ pub fn contents_change_by_writes_and_reverts()
 {}
 
 /// A `tick` line moves the clock by its ticks, an idle stretch by its length, and nothing else moves it.
-#[tactic(auto, using(crate::proofs::Clock::clock_moves))]
+#[tactic(auto, using(crate::proofs::Moves::clock_moves))]
 pub fn the_clock_moves_by_ticks()
     ensures { (s : Plan) (so_far : List Act) (act : Act) → ClockMoves s so_far act }
 {}
 
 /// An idle stretch is the shortest that spends a limit that runs.
-#[tactic(auto, using(crate::proofs::Idle::idles_shortest))]
+#[tactic(auto, using(crate::proofs::Moves::idles_shortest))]
 pub fn idle_stretches_are_shortest()
     ensures { (s : Plan) (so_far : List Act) → IdlesShortest s so_far }
 {}
@@ -212,7 +189,7 @@ pub fn calls_are_the_owners()
 {}
 
 /// A refusal changes nothing, and neither does a line that only looks.
-#[tactic(auto, using(crate::proofs::Refused::refusals_change_nothing))]
+#[tactic(auto, using(crate::proofs::Moves::refusals_change_nothing))]
 pub fn refusals_change_nothing()
     ensures { (s : Plan) (so_far : List Act) (act : Act) → RefusalsChangeNothing s so_far act }
 {}
@@ -226,7 +203,7 @@ pub fn calls_are_accepted_in_order()
 {}
 
 /// Only writes, `begin` and `await` wait; without a session no agenda runs; and no lane writes as a writer that stands frozen.
-#[tactic(auto, using(crate::proofs::Calls::waits_are_few, crate::proofs::Calls::waits_are_due, crate::proofs::Calls::stands_quiet, crate::proofs::Calls::frozen_do_not_write))]
+#[tactic(auto, using(crate::proofs::Moves::waits_are_few, crate::proofs::Moves::waits_are_due, crate::proofs::Moves::stands_quiet, crate::proofs::Moves::frozen_do_not_write))]
 pub fn few_lines_wait()
     ensures waits { (s : Plan) (so_far : List Act) → WaitsAreFew s so_far }
     ensures due { (s : Plan) (so_far : List Act) → WaitsAreDue s so_far }
@@ -248,7 +225,7 @@ pub fn replies_tell_what_stands()
 {}
 
 /// `properties` tells of a kept image the context of its set, the clock at the set's one cut, and the slots that the image uses.
-#[tactic(auto, using(crate::proofs::Properties::properties_tell))]
+#[tactic(auto, using(crate::proofs::CutTimes::properties_tell))]
 pub fn properties_tell_the_image()
     ensures { (s : Plan) (so_far : List Act) (act : Act) → PropertiesTell s so_far act }
 {}
@@ -285,7 +262,7 @@ pub fn limits_are_these_numbers()
 {}
 
 /// After no act has an order of Identify, Thaw, PostSnapshot or BackupComplete been open for more than 300,000 ticks.
-#[tactic(auto, using(crate::proofs::Unanswered::orders_end))]
+#[tactic(auto, using(crate::proofs::Within::orders_end))]
 pub fn no_order_stays_open()
     ensures { (s : Plan) (so_far : List Act) → OrdersEnd s so_far }
 {}
@@ -298,7 +275,7 @@ pub fn backups_end_with_their_session()
 
 /// While the agenda of `snapshot` runs, a volume is held from its Hold step to its Release step, and a writer stands frozen from its ok to
 /// Freeze until it is heard at Thaw; at no other time is one held or frozen.
-#[tactic(auto, using(crate::proofs::Stills::stands_still))]
+#[tactic(auto, using(crate::proofs::Times::stands_still))]
 pub fn all_stand_still_as_told()
     ensures { (s : Plan) (so_far : List Act) → StandsStill s so_far }
 {}

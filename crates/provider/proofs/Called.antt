@@ -1,18 +1,27 @@
--- The group of a volume was called, and the others are as they were: what that comes to for all of them.
-use Rattle.std.proofs.Common.{◌≡◌, ℕ, zero, suc, ◌<◌, List, [], ◌∷◌, length, refl, ap, sym, ◌∙◌, subst, arith, Bool, true, false, Option, Some, All, map, slice_get, slice_set}
-use Rattle.std.specs.Prelude.{Result, Ok, Err, OnOk, IfErr}
+-- The group of a volume was called, and the others are as they were, also by counts of devices that say nothing of faults.
+use Rattle.std.proofs.Common.{◌≡◌, ℕ, zero, suc, ◌<◌, List, [], ◌∷◌, length, refl, ap, sym, ◌∙◌, subst, arith, Bool, true, false, Option, Some, All, map}
+use Rattle.std.proofs.Common.{slice_get, slice_set, ◌≤◌, inr}
 use Rattle.std.proofs.lemmas.List.{length-map}
-use Rattle.vss_model.specs.Words.{History, Image, Plan, Write, blocks_of, change_at, cut, dropped, point_in, reverted, reverted_in_part, sets_of, to_restore, written}
-use Rattle.provider.specs.Words.{Area, Cause, DeviceRose, Fault, Ghosts, GroupValue, HasImageCause as HasGroupImageCause, ImageFault, IsPutOr, IsRevert as IsGroupRevert}
-use Rattle.provider.specs.Words.{IsUnfailed, IsUnseen, NoSuchBlock, RevertFault, StandsFor, Volume, VolumeRose, blocks_at, changed_at, history_at as group_history_at, is_there, sets_at}
-use Rattle.provider.proofs.Words.{AreGroups, AreKept, CanCutOn, HasCause, HasDigestCause, HasImageCause, IsCallOn, IsCutOn, IsDropped, IsGroupDrop, IsKeptGroup, IsPut, IsQuiet, IsQuietGroup, IsRevert}
-use Rattle.provider.proofs.Words.{LastsAt, ProviderValue, RoseAlone, counts_of, devices_of, fault_of, history_at, quiet_stands, slice_get-set_other, slice_set-same, volume_place}
+use Rattle.std.specs.Prelude.{Result, Ok, Err, OnOk, IfErr}
+use Rattle.cow_volume.specs.Calls.{StopsAfter as StopsInGroup}
 use Rattle.cow_volume.specs.declared.image_fault.ImageFault.TheVariants as image
 use Rattle.cow_volume.specs.declared.revert_fault.RevertFault.TheVariants.{NoSuchImage as NoImage}
-use Rattle.provider.proofs.Becoming.{changes, stays}
-use Rattle.provider.proofs.Found.{Found, blocks_here, device_is, history_here, image_of, own, sets_here, stands_here, there_of}
+use Rattle.cow_volume.proofs.RestoringMerged.{same_counts}
+use Rattle.vss_model.specs.Words.{History, Image, Plan, Write, blocks_of, change_at, cut, dropped, point_in, reverted, reverted_in_part, sets_of, to_restore}
+use Rattle.vss_model.specs.Words.{written, place_in}
+use Rattle.provider.specs.Calls.{StopsAfter}
+use Rattle.provider.specs.Words.{Area, Cause, DeviceRose, Fault, Ghosts, GroupValue, HasImageCause as HasGroupImageCause, ImageFault, IsPutOr}
+use Rattle.provider.specs.Words.{IsRevert as IsGroupRevert, IsUnfailed, IsUnseen, NoSuchBlock, RevertFault, StandsFor, Volume, VolumeRose, blocks_at}
+use Rattle.provider.specs.Words.{changed_at, history_at as group_history_at, is_there, sets_at, uncounted}
+use Rattle.provider.proofs.InGroup.{changes, stays, group_there}
 use Rattle.provider.proofs.Flat.{rose_volume, rose_area, area_of_place, counts_same, devices_same, lasts_same, mapped_same}
-use Rattle.provider.proofs.Kept.{kept_one, kept_itself, called_there}
+use Rattle.provider.proofs.Found.{Found, blocks_here, device_is, history_here, image_of, own, sets_here, stands_here, there_of, own_device}
+use Rattle.provider.proofs.Kept.{kept_one, kept_itself, called_there, same_length}
+use Rattle.provider.proofs.Words.{AreGroups, AreKept, CanCutOn, HasCause, HasDigestCause, HasImageCause, IsCallOn, IsCutOn, IsDropped, IsGroupDrop, IsKeptGroup}
+use Rattle.provider.proofs.Words.{IsPut, IsQuiet, IsQuietGroup, IsRevert, LastsAt, ProviderValue, RoseAlone, counts_of, devices_of, fault_of, history_at}
+use Rattle.provider.proofs.Words.{quiet_stands, slice_get-set_other, slice_set-same, volume_place, AreLater, HasGroups, slice_get_inside}
+
+-- ## The group of a volume was called, and the others are as they were: what that comes to for all of them.
 
 pub record Called {D : Type 0} (s : Plan) (old new : List (GroupValue D)) (v : ℕ) : Type 0 where
   pub found : Found s old v
@@ -198,3 +207,49 @@ module _ {D : Type 0} (told : D → Option (List (List ℕ))) {s : Plan} {v : �
 
   pub newest_of : All (λ (n : ℕ). n < p.set) (sets_at f.here f.within)
   newest_of = subst (λ (sets : List ℕ). All (λ (n : ℕ). n < p.set) sets) (sym sets_same) (lesser (history_at can.histories v).images can.newest)
+
+-- ## Counts of devices that say nothing of faults, and a revert that stops where it is told to.
+
+-- a count at its most counts as risen where nothing happened
+rose_still : {D : Type 0} (xs : List D) (k : ℕ) (d : D) → slice_get xs k ≡ Some d → RoseAlone k (map (λ (x : D). uncounted x) xs) (map (λ (x : D). uncounted x) xs)
+rose_still [] k d e = cc
+rose_still (x ∷ xs) zero d e = (inr refl, refl)
+rose_still (x ∷ xs) (suc k) d e = (refl, rose_still xs k d e)
+
+pub rose_at : {D : Type 0} (s : Plan) (groups : List (GroupValue D)) (v : ℕ) → HasGroups s groups → v < length s.volumes
+    → RoseAlone (volume_place s v) (counts_of uncounted groups) (counts_of uncounted groups)
+rose_at s groups v has low =
+    let row = slice_get_inside s.volumes v low in
+    let u = place_in row.0.group s.volumes v in
+    let there = group_there s groups v row.0.group u (record { row = row.0; is_row = row.1; group_is = refl; within_is = refl }) has in
+    let found : Found s groups v =
+    record { has = has; group = row.0.group; within = u; place = record { row = row.0; is_row = row.1; group_is = refl; within_is = refl }; here = there.0; at = there.1 } in
+    let d = own_device found in
+    rose_still (devices_of groups) (volume_place s v) d.0 d.2
+
+-- where no count fell, there are as many devices
+pub as_many : {D : Type 0} (count : D → ℕ) (ds es : List D) → AreLater (map count ds) (map count es) → length es ≡ length ds
+as_many count [] [] h = refl
+as_many count [] (e ∷ es) h = absurd h
+as_many count (d ∷ ds) [] h = absurd h
+as_many count (d ∷ ds) (e ∷ es) h = ap (λ (n : ℕ). suc n) (as_many count ds es h.1)
+
+-- a count that rose, as one that says nothing
+pub rose_unsaid : {D : Type 0} (count : D → ℕ) (xs ys : List D) (k : ℕ) → RoseAlone k (map count xs) (map count ys) → RoseAlone k (map (λ (x : D). uncounted x) xs) (map (λ (x : D). uncounted x) ys)
+rose_unsaid count [] ys zero rose = absurd rose
+rose_unsaid count [] ys (suc k) rose = absurd rose
+rose_unsaid count (x ∷ xs) [] zero rose = absurd rose
+rose_unsaid count (x ∷ xs) [] (suc k) rose = absurd rose
+rose_unsaid count (x ∷ xs) (y ∷ ys) zero rose = (inr refl, same_counts xs ys (same_length count xs ys rose.1))
+rose_unsaid count (x ∷ xs) (y ∷ ys) (suc k) rose = (refl, rose_unsaid count xs ys k rose.1)
+
+-- what a group says of where it stops
+pub stops_of : {D : Type 0} (told : D → Option (List (List ℕ))) {s : Plan} {old new : List (GroupValue D)} {v : ℕ} (c : Called s old new v) (set k : ℕ) (result : Result Unit RevertFault)
+    → StopsInGroup told c.found.here c.found.within set k result → StopsAfter told s old v set k result
+stops_of told {s = s} {v = v} c set k (Ok done) h = λ hs are p point.
+    let same = history_here c.found hs are.histories in
+    subst (λ (x : History). length (to_restore (blocks_of s v) x.writes p) ≤ k) same
+    (subst (λ (n : ℕ). length (to_restore n (group_history_at (own c.found hs) c.found.within).writes p) ≤ k) (blocks_here c.found)
+    (h (own c.found hs) p (stands_here told c.found hs are) (ap (λ (x : History). point_in set x.images) same ∙ point)))
+stops_of told c set k (Err NoImage) h = tt
+stops_of told c set k (Err (Fault restored cause)) h = h

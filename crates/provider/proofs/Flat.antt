@@ -1,9 +1,16 @@
--- The devices of all groups in their order: at which place each stands, and what is known of all of them from what is known of
+-- The devices of all groups in their order: where each stands, how many there are, and how they are given back.
+use Rattle.std.proofs.Common.{◌≡◌, ◌<◌, ℕ, zero, suc, ◌+◌, ◌-◌, List, [], ◌∷◌, ◌++◌, length, refl, ap, sym, ◌∙◌, subst, arith, append_assoc, Some, map}
+use Rattle.std.proofs.Common.{slice_get, slice_set, ◌≤◌, ◌*◌, take, ◌==◌, Bool, true, false}
+use Rattle.std.proofs.lemmas.List.{append-nil, length-append}
+use Rattle.cow_volume.specs.StandsFor.{GroupValue}
+use Rattle.vss_model.proofs.Words.{number_is}
+use Rattle.provider.specs.Groups.{devices_of, IsFit}
+use Rattle.provider.proofs.Words.{AreaRose, Ghosts, HasGroups, IsPlaceOf, IsUnfailed, LastsAt, Plan, Rose, RoseAlone, StillLasts, VolumeRose, VolumeRow}
+use Rattle.provider.proofs.Words.{area_place, blocks_in_group, counts_of, first_place, get_some_left, length-map, map-append, map-id, set-append_left}
+use Rattle.provider.proofs.Words.{set-append_right, slice_get_map, slice_get_within, volume_place, volumes_area, volumes_area_in, nat_tests, take_next}
+
+-- ## The devices of all groups in their order: at which place each stands, and what is known of all of them from what is known of
 -- each group.
-use Rattle.std.proofs.Common.{◌≡◌, ◌<◌, ℕ, zero, suc, ◌+◌, ◌-◌, List, [], ◌∷◌, ◌++◌, length, refl, ap, sym, ◌∙◌, subst, arith, append_assoc, Some, map, slice_get, slice_set}
-use Rattle.provider.proofs.Words.{AreaRose, Ghosts, GroupValue, HasGroups, IsPlaceOf, IsUnfailed, LastsAt, Plan, Rose, RoseAlone, StillLasts, VolumeRose, VolumeRow, area_place, blocks_in_group, counts_of, devices_of, first_place}
-use Rattle.provider.proofs.Words.{get_some_left, length-append, length-map, map-append, map-id, set-append_left, set-append_right, slice_get_map, slice_get_within, volume_place}
-use Rattle.provider.proofs.Words.{volumes_area, volumes_area_in}
 
 -- ## joined lists
 
@@ -229,3 +236,95 @@ lasts_same ghosts (z ∷ groups) (suc g) x y at long devices area =
     let more = slice_set groups g y in
     joined_last ghosts (z.devices) z.devices (z.area.device ∷ devices_of groups) (z.area.device ∷ devices_of more) refl (λ v h. h)
     (joined_last ghosts (z.area.device ∷ []) (z.area.device ∷ []) (devices_of groups) (devices_of more) refl (λ v h. h) (lasts_same ghosts groups g x y at long devices area))
+
+-- ## Counting the devices of groups.
+
+devices_more : {D : Type 0} (groups : List (GroupValue D)) (x : GroupValue D) → length (devices_of (groups ++ x ∷ [])) ≡ length (devices_of groups) + (length x.devices + 1)
+devices_more [] x = let e = length-append x.devices (x.area.device ∷ []) in omega (arith, e)
+devices_more (y ∷ groups) x =
+    let rest = devices_more groups x in
+    let long = length-append y.devices (y.area.device ∷ devices_of (groups ++ x ∷ [])) in
+    let before = length-append y.devices (y.area.device ∷ devices_of groups) in
+    omega (arith, rest, long, before)
+
+below_next : (k i : ℕ) → k < i + 1 → (k == i) ≡ false → k < i
+below_next k i low e = grind (arith, nat_tests)
+
+-- the groups so far have so many devices
+pub record AreCounted {D : Type 0} (groups : List (GroupValue D)) (i count : ℕ) : Type 0 where
+  pub count_is : count ≡ length (devices_of (take i groups))
+  pub most : count ≤ i * 4294967296
+  pub whole : (k : ℕ) (x : GroupValue D) → k < i → slice_get groups k ≡ Some x → length x.devices ≡ length x.area.volumes
+
+pub counted_more : {D : Type 0} (groups : List (GroupValue D)) (i count volumes : ℕ) (x : GroupValue D) → slice_get groups i ≡ Some x → volumes ≡ length x.area.volumes
+    → length x.devices ≡ length x.area.volumes → volumes < 4294967296
+    → AreCounted groups i count → AreCounted groups (i + 1) (count + (volumes + 1))
+counted_more {D = D} groups i count volumes x at many whole few c =
+    let next = take_next groups i x at in
+    let more = devices_more (take i groups) x in
+    let so_far = c.count_is in
+    let most = c.most in
+    record {
+      count_is = omega (arith, so_far, many, whole, more) ∙ sym (ap (λ (xs : List (GroupValue D)). length (devices_of xs)) next);
+      most = omega arith;
+      whole = λ k y low there. by_test k y low there (k == i) refl;
+    }
+  where
+    by_test : (k : ℕ) (y : GroupValue D) → k < i + 1 → slice_get groups k ≡ Some y → (t : Bool) → (k == i) ≡ t → length y.devices ≡ length y.area.volumes
+    by_test k y low there true e =
+        let same = number_is k i e in
+        let one : Some x ≡ Some y = sym at ∙ ap (slice_get groups) (sym same) ∙ there in
+        let is : x ≡ y = cc in
+        subst (λ (z : GroupValue D). length z.devices ≡ length z.area.volumes) is whole
+    by_test k y low there false e =
+        let less : k < i = below_next k i low e in
+        c.whole k y less there
+
+-- the devices of the groups so far fit
+abbrev pub FirstFit : {D : Type 0} → (D → ℕ) → List (GroupValue D) → ℕ → Type 0
+FirstFit {D = D} size groups i = (k : ℕ) (x : GroupValue D) → k < i → slice_get groups k ≡ Some x → IsFit size x
+
+pub fit_more : {D : Type 0} (size : D → ℕ) (groups : List (GroupValue D)) (i : ℕ) (x : GroupValue D) → slice_get groups i ≡ Some x → IsFit size x → FirstFit size groups i
+    → FirstFit size groups (i + 1)
+fit_more size groups i x at fit before k y low there = by_test (k == i) refl
+  where
+    by_test : (t : Bool) → (k == i) ≡ t → IsFit size y
+    by_test true e =
+        let one : Some x ≡ Some y = sym at ∙ ap (slice_get groups) (sym (number_is k i e)) ∙ there in
+        let is : x ≡ y = cc in
+        subst (λ (z : GroupValue _). IsFit size z) is fit
+    by_test false e = before k y (below_next k i low e) there
+
+-- ## Devices go into a list one by one, and groups one by one.
+
+-- what is listed and what is left are what there was, and there is room for all, as before
+pub record IsMoving {X : Type 0} (first all list rest : List X) (before room : ℕ) : Type 0 where
+  pub kept : list ++ rest ≡ first ++ all
+  pub enough : length first + length all ≤ room
+  pub same : room ≡ before
+
+pub moving_room : {X : Type 0} (first all list rest less : List X) (x : X) (before room : ℕ) → rest ≡ x ∷ less → IsMoving first all list rest before room → length list < room
+moving_room first all list rest less x before room next m =
+    let a = length-append list rest in
+    let b = length-append first all in
+    let c = ap length m.kept in
+    let d = ap length next in
+    let e = m.enough in
+    omega (arith, a, b, c, d, e)
+
+-- ## groups
+
+-- the devices that are listed and those of the groups that are left are all, and there is room for them
+pub record AreMoving {D : Type 0} (all rest : List (GroupValue D)) (list : List D) (room : ℕ) : Type 0 where
+  pub kept : list ++ devices_of rest ≡ devices_of all
+  pub enough : length (devices_of all) ≤ room
+
+devices_split : {D : Type 0} (x : GroupValue D) (rest : List (GroupValue D)) → devices_of (x ∷ []) ++ devices_of rest ≡ devices_of (x ∷ rest)
+devices_split x rest = append_assoc x.devices (x.area.device ∷ []) (devices_of rest)
+
+pub groups_room : {D : Type 0} (all rest less : List (GroupValue D)) (x : GroupValue D) (list : List D) (room : ℕ) → rest ≡ x ∷ less → AreMoving all rest list room
+    → length list + length (devices_of (x ∷ [])) ≤ room
+groups_room all rest less x list room next m = grind (arith, length-append, devices_split)
+
+pub groups_all : {D : Type 0} (all rest : List (GroupValue D)) (list : List D) (room : ℕ) → rest ≡ [] → AreMoving all rest list room → list ≡ devices_of all
+groups_all {D = D} all rest list room done m = sym (append-nil list) ∙ ap (λ (xs : List (GroupValue D)). list ++ devices_of xs) (sym done) ∙ m.kept

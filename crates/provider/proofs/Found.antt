@@ -3,13 +3,12 @@ use Rattle.std.proofs.Common.{◌≡◌, ℕ, ◌<◌, List, length, refl, ap, s
 use Rattle.provider.proofs.Words.{AreGroups, AtPoint, GroupValue, HasGroups, HasImage, History, IfShown, IfStandFor, IsDigestAt, IsDigestShown, IsPlaceOf, IsPointOf, IsThere, Plan, ProviderValue}
 use Rattle.provider.proofs.Words.{StandsFor, VolumeRow, Write, and_parts, blocks_at, blocks_in, blocks_of, concat, content, contents, device_read, devices_of, history_at, is_among, is_there, of_group, one_place, place_at}
 use Rattle.provider.proofs.Words.{place_in, sets_at, sets_in, sets_of, sha256, slice_get_inside, slice_get_map, told_at, told_in, used, used_by, volume_place}
-use Rattle.diff_area.specs.Places.{blocks_for}
+use Rattle.diff_area.specs.Format.{blocks_for}
 use Rattle.provider.specs.Calls.{IsDigestTold}
-use Rattle.provider.specs.Devices.{AreSized}
-use Rattle.provider.specs.Groups.{AreFit}
+use Rattle.provider.specs.Groups.{AreSized, AreFit}
 use Rattle.provider.specs.Words.{IsBytes, IsSeen, blocks_in as group_blocks_in, history_at as group_history_at}
-use Rattle.provider.proofs.Places.{history_of_place, group_below, group_there, within_there, blocks_are}
-use Rattle.provider.proofs.Looked.{point_among}
+use Rattle.provider.proofs.InGroup.{history_of_place, group_below, group_there, within_there, blocks_are}
+use Rattle.provider.proofs.Dropped.{point_among}
 use Rattle.provider.proofs.Flat.{volume_device_at, area_device_at, area_of_place}
 use Rattle.provider.proofs.Kept.{both_tell}
 

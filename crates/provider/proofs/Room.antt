@@ -1,16 +1,46 @@
 -- Room is made in one group for a write: which images go of all volumes, and by which numbers they are told.
-use Rattle.std.proofs.Common.{◌≡◌, ℕ, zero, suc, ◌+◌, ◌≤◌, ◌==◌, List, [], ◌∷◌, ◌++◌, length, refl, ap, sym, ◌∙◌, subst, arith, Bool, true, false, Option, Some, map, slice_get, ◌&&◌, if◌then◌else◌}
-use Rattle.provider.proofs.Words.{AreGroups, Evicted, Ghosts, GoUpTo, GroupValue, HasRoom, History, IsEvicted, IsKeptGroup, IsLastSet, IsRoomMade, Placed, Plan, StandsFor, VolumeRow, as_many_gone}
-use Rattle.provider.proofs.Words.{blocks_in_group, evicted_of, evicted_up_to, flat_map, flat_map-cons, gone_group, gone_up_to, group_of, has_image, holders, images_going, length-map}
-use Rattle.provider.proofs.Words.{made_room, map-append, of_group, of_group_if, place_in, placed, placed_in, range_with_len, renumbered, sets_at, sets_of, slice_get_inside, slice_get_within, slots_in}
-use Rattle.provider.proofs.Words.{slots_of, volume_after, volume_in}
+use Rattle.std.proofs.Common.{◌≡◌, ℕ, zero, suc, ◌+◌, ◌<◌, List, [], ◌∷◌, ◌++◌, length, take, drop, get_or, map, refl, ap, sym, ◌∙◌, arith, Some, slice_get}
+use Rattle.std.proofs.Common.{slice_set, ◌≤◌, ◌==◌, subst, Bool, true, false, Option, ◌&&◌, if◌then◌else◌}
 use Rattle.provider.specs.Words.{HasRoom as HasGroupRoom, holders as group_holders, images_going as group_images, lacks_slot, placed as all_placed}
-use Rattle.provider.proofs.InGroup.{gone_in_group, gone_elsewhere, evicted_in_group}
-use Rattle.provider.proofs.Becoming.{becomes}
+use Rattle.provider.proofs.InGroup.{becomes, gone_in_group, gone_elsewhere, evicted_in_group}
 use Rattle.provider.proofs.Called.{Called, call_of, called_found, devices_still}
 use Rattle.provider.proofs.Found.{Found, own, stands_here, there}
 use Rattle.provider.proofs.Kept.{kept_itself}
-use Rattle.provider.proofs.Looked.{point_among}
+use Rattle.provider.proofs.Dropped.{point_among}
+use Rattle.provider.proofs.Words.{Evicted, Plan, get_or_from_slice_get, renumbered, slice_get_inside, volume_in, AreGroups, Ghosts, GoUpTo, GroupValue, HasRoom}
+use Rattle.provider.proofs.Words.{History, IsEvicted, IsKeptGroup, IsLastSet, IsRoomMade, Placed, StandsFor, VolumeRow, as_many_gone, blocks_in_group}
+use Rattle.provider.proofs.Words.{evicted_of, evicted_up_to, flat_map, flat_map-cons, gone_group, gone_up_to, group_of, has_image, holders, images_going}
+use Rattle.provider.proofs.Words.{length-map, made_room, map-append, of_group, of_group_if, place_in, placed, placed_in, range_with_len, sets_at, sets_of}
+use Rattle.provider.proofs.Words.{slice_get_within, slots_in, slots_of, volume_after}
+
+-- ## Images get the numbers of the scenario, one after another.
+
+get_next : {X : Type 0} (h : X → X) (ys : List X) (i : ℕ) → slice_get (map h (take i ys) ++ drop i ys) i ≡ slice_get ys i
+get_next h [] zero = refl
+get_next h [] (suc i) = refl
+get_next h (y ∷ ys) zero = refl
+get_next h (y ∷ ys) (suc i) = get_next h ys i
+
+set_next : {X : Type 0} (h : X → X) (ys : List X) (i : ℕ) (y : X) → slice_get ys i ≡ Some y → slice_set (map h (take i ys) ++ drop i ys) i (h y) ≡ map h (take (suc i) ys) ++ drop (suc i) ys
+set_next h [] i y at = cc
+set_next h (x ∷ ys) zero y at = let same : x ≡ y = cc in ap (λ z. h z ∷ ys) (sym same)
+set_next h (x ∷ ys) (suc i) y at = ap (λ zs. h x ∷ zs) (set_next h ys i y at)
+
+pub renumbered_next : (s : Plan) (g i : ℕ) (xs ys : List Evicted) (x m : Evicted) (v : ℕ) → i < length ys → xs ≡ map (renumbered s g) (take i ys) ++ drop i ys → x ≡ get_or xs i x → m ≡ get_or xs i m
+    → v ≡ volume_in g s.volumes x.volume → slice_set xs i (record { set = m.set; volume = v }) ≡ map (renumbered s g) (take (i + 1) ys) ++ drop (i + 1) ys
+renumbered_next s g i xs ys x m v low is first second number =
+    let y = slice_get_inside ys i low in
+    let at : slice_get xs i ≡ Some y.0 = ap (λ (zs : List Evicted). slice_get zs i) is ∙ get_next (renumbered s g) ys i ∙ y.1 in
+    let here : x ≡ y.0 = first ∙ get_or_from_slice_get xs i y.0 x at in
+    let there : m ≡ y.0 = second ∙ get_or_from_slice_get xs i y.0 m at in
+    let next : suc i ≡ i + 1 = omega arith in
+    ap (λ (k : ℕ). slice_set xs i (record { set = m.set; volume = k })) (number ∙ ap (λ (z : Evicted). volume_in g s.volumes z.volume) here)
+    ∙ ap (λ (z : Evicted). slice_set xs i (record { set = z.set; volume = volume_in g s.volumes y.0.volume })) there
+    ∙ ap (λ (zs : List Evicted). slice_set zs i (renumbered s g y.0)) is
+    ∙ set_next (renumbered s g) ys i y.0 y.1
+    ∙ ap (λ (k : ℕ). map (renumbered s g) (take k ys) ++ drop k ys) next
+
+-- ## Room is made in one group for a write: which images go of all volumes, and by which numbers they are told.
 
 -- ## members
 

@@ -26,8 +26,8 @@ pub use Rattle.cow_volume.proofs.Merging.{point_before}
 pub use Rattle.cow_volume.proofs.Reverting.{take_next}
 pub use Rattle.provider.specs.Calls.{AreWithout, GoUpTo, HasImage, HasImageCause, HasRoom, IfShown, IsDigestShown, IsDigestTold, IsDigestedAt, IsDropped, IsLastSet, IsPut, IsQuiet}
 pub use Rattle.provider.specs.Calls.{IsRevert, IsRoomMade, IsShown, IsThere, holders, images_going, put_if, renumbered}
-pub use Rattle.provider.specs.Devices.{AreKept, AreLasting, AreLater, HasCause, HasSyncCause, IsCallOn, IsKeptGroup, IsSynced, RoseAlone, area_place, counts_of, devices_of, fault_of}
-pub use Rattle.provider.specs.Devices.{first_place, tells_from, tells_of, told_at, told_by, told_of, volume_place, volume_place_in, volumes_area, volumes_area_in}
+pub use Rattle.provider.specs.Groups.{AreKept, AreLasting, AreLater, HasCause, HasSyncCause, IsCallOn, IsKeptGroup, IsSynced, RoseAlone, area_place, counts_of}
+pub use Rattle.provider.specs.Groups.{devices_of, fault_of, first_place, tells_from, tells_of, told_at, told_by, told_of, volume_place, volume_place_in}
+pub use Rattle.provider.specs.Groups.{volumes_area, volumes_area_in, AreFresh, AreGroups, AreWhole, HasGroups, IfStandFor, IsGroup, IsPointOf, history_at}
 pub use Rattle.provider.specs.GroupCalls.{Adds, AtPoint, HasDigestCause, ImageRose, IsDigestAt, IsGroupDrop, IsQuietGroup, IsWithout}
-pub use Rattle.provider.specs.Groups.{AreFresh, AreGroups, AreWhole, HasGroups, IfStandFor, IsGroup, IsPointOf, history_at}
 pub use Rattle.provider.specs.Preparing.{CanCutOn, HasStepCause, IsCutOn, IsProvider, ProviderValue, refusal, step_taken}

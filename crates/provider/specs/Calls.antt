@@ -7,8 +7,7 @@ use Rattle.provider.specs.Words.{Cause, Digested, Fault, Ghosts, GroupValue, Ima
 use Rattle.cow_volume.specs.declared.cause.Cause.TheVariants as cause
 use Rattle.cow_volume.specs.declared.image_fault.ImageFault.TheVariants.{NoSuchBlock, Volume, Area}
 use Rattle.cow_volume.specs.declared.revert_fault.RevertFault.TheVariants.{NoSuchImage as NoImage}
-use Rattle.provider.specs.Groups.{HasGroups, AreGroups, IfStandFor, IsPointOf, history_at}
-use Rattle.provider.specs.Devices.{devices_of, told_at, AreKept, IsCallOn, HasCause, fault_of}
+use Rattle.provider.specs.Groups.{HasGroups, AreGroups, IfStandFor, IsPointOf, history_at, devices_of, told_at, AreKept, IsCallOn, HasCause, fault_of}
 
 -- ## writes
 

@@ -5,8 +5,7 @@ use Rattle.vss_model.specs.Words.{History, Write, content, contents, count_image
 use Rattle.provider.specs.Words.{AreaRose, Ghosts, GroupValue, HasTaken, Hasher, ImageFault, IsChanged, IsQuiet, IsUnfailed, NoSuchImage, StandsFor, VolumeRose, blocks_at}
 use Rattle.provider.specs.Words.{history_at, is_among, is_there, sets_at, sha256}
 use Rattle.cow_volume.specs.declared.image_fault.ImageFault.TheVariants.{NoSuchBlock, Volume, Area}
-use Rattle.provider.specs.Groups.{IsPointOf}
-use Rattle.provider.specs.Devices.{IsKeptGroup}
+use Rattle.provider.specs.Groups.{IsPointOf, IsKeptGroup}
 
 -- ## images that go
 

@@ -1,5 +1,4 @@
 pub mod Groups
-pub mod Devices
 pub mod GroupCalls
 pub mod Calls
 pub mod Preparing

@@ -5,8 +5,7 @@ use Rattle.std.specs.declared.alloc.Global.{Global}
 use Rattle.vss_model.specs.Words.{Commit, Flush, Group, History, Image, MaximumNumberOfSnapshotsReached, MaximumNumberOfVolumesReached, ObjectAlreadyExists, Plan, VssResult, change_at, cut, is_among}
 use Rattle.vss_model.specs.Words.{most_images, most_volumes}
 use Rattle.provider.specs.Words.{Cause, Ghosts, GroupValue, Volume}
-use Rattle.provider.specs.Groups.{AreGroups, IfStandFor, history_at}
-use Rattle.provider.specs.Devices.{devices_of, counts_of, volume_place, RoseAlone, AreKept}
+use Rattle.provider.specs.Groups.{AreGroups, IfStandFor, history_at, devices_of, counts_of, volume_place, RoseAlone, AreKept}
 
 -- what a contract sees of a provider
 pub record ProviderValue (D : Type 0) : Type 0 where

@@ -1,7 +1,5 @@
 -- The words of devices and of volumes on them, from one place.
-pub use Rattle.block_data.specs.Digest.{sha256}
-pub use Rattle.block_data.specs.Hashed.{HasTaken}
-pub use Rattle.block_data.specs.PayloadBytes.{payload_bytes}
+pub use Rattle.block_data.specs.BlockBytes.{sha256, HasTaken, payload_bytes}
 pub use Rattle.block_data.specs.declared.hasher.Hasher.{Hasher}
 pub use Rattle.block_data.specs.declared.payload.Payload.{Payload}
 pub use Rattle.cow_volume.specs.Calls.{AreaRose, DeviceRose, HasImageCause, IsChanged, IsEvicted, IsKept, IsQuiet, IsRevert, IsSameDevice, IsSeen, IsUnfailed, LastsAt, NeverFails, StillLasts, VolumeRose}
@@ -9,10 +7,9 @@ pub use Rattle.cow_volume.specs.Calls.{blocks_at}
 pub use Rattle.cow_volume.specs.Calls.{blocks_in, changed_at, counted_as, counted_by, history_at, history_in, is_among, is_there, made_room, sets_at, sets_in, uncounted}
 pub use Rattle.cow_volume.specs.Changes.{gone_row}
 pub use Rattle.cow_volume.specs.Ending.{AllTell, IsSync, IsSynced}
-pub use Rattle.cow_volume.specs.GroupValue.{GroupValue, placed}
+pub use Rattle.cow_volume.specs.StandsFor.{GroupValue, placed, StandsFor, told_in}
 pub use Rattle.cow_volume.specs.Parts.{IsUnseen}
 pub use Rattle.cow_volume.specs.Room.{HasRoom, gone_group, holders, images_going, lacks_slot}
-pub use Rattle.cow_volume.specs.StandsFor.{StandsFor, told_in}
 pub use Rattle.cow_volume.specs.Steps.{IsPutOr}
 pub use Rattle.cow_volume.specs.declared.cause.Cause.{Cause}
 pub use Rattle.cow_volume.specs.declared.cause.Cause.TheVariants.{Area, NoSuchBlock, Volume}

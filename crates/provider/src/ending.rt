@@ -1,7 +1,7 @@
 //! The devices that are given back.
 
 ghost use Rattle.std.specs.Prelude.{◌≡◌, ◌≤◌, ◌+◌, ◌++◌, ◌∷◌, [], length, vec_capacity};
-ghost use Rattle.provider.specs.Devices.{devices_of};
+ghost use Rattle.provider.specs.Groups.{devices_of};
 
 use cow_volume::CowGroup;
 use volume_device::Device;

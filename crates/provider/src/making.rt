@@ -1,8 +1,7 @@
 //! What a provider is made of.
 
 ghost use Rattle.std.specs.Prelude.{◌≡◌, ◌<◌, length};
-ghost use Rattle.provider.specs.Groups.{AreFit, AreWhole};
-ghost use Rattle.provider.specs.Devices.{devices_of};
+ghost use Rattle.provider.specs.Groups.{AreFit, AreWhole, devices_of};
 
 use cow_volume::CowGroup;
 use volume_device::Device;

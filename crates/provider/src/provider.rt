@@ -1,6 +1,6 @@
 ghost use Rattle.std.specs.Prelude.{◌≡◌, ◌≢◌, ◌<◌, ◌≤◌, ◌*◌, ℕ, [], true, false, length, map, slice_get, Some, is_some, vec_capacity, IfOk, IfErr, IfSome, OnOk, All};
 ghost use Rattle.hex.specs.Hex.{IsBytes};
-ghost use Rattle.block_data.specs.PayloadBytes.{payload_bytes};
+ghost use Rattle.block_data.specs.BlockBytes.{payload_bytes};
 ghost use Rattle.write_history.specs.History.{fresh, sets_of};
 ghost use Rattle.write_history.specs.Slots.{used, used_by};
 ghost use Rattle.set_agenda.specs.Agenda.{is_among, is_orders, is_over_volumes};
@@ -8,10 +8,9 @@ ghost use Rattle.set_agenda.specs.declared.group.Group.TheVariants.{Commit, Flus
 ghost use Rattle.scenario.specs.Bounds.{IsBlock};
 ghost use Rattle.scenario.specs.Plan.{Plan, blocks_of};
 ghost use Rattle.scenario.specs.Places.{IsPlaceOf};
-ghost use Rattle.cow_volume.specs.GroupValue.{GroupValue};
+ghost use Rattle.cow_volume.specs.StandsFor.{GroupValue};
 ghost use Rattle.cow_volume.specs.Parts.{IsLentBy};
-ghost use Rattle.provider.specs.Groups.{AreFit, AreFresh, AreGroups, AreWhole, HasGroups, IfStandFor, history_at};
-ghost use Rattle.provider.specs.Devices.{AreKept, AreLasting, HasCause, HasSyncCause, IsSynced, devices_of, fault_of, volume_place};
+ghost use Rattle.provider.specs.Groups.{AreFit, AreFresh, AreGroups, AreWhole, HasGroups, IfStandFor, history_at, AreKept, AreLasting, HasCause, HasSyncCause, IsSynced, devices_of, fault_of, volume_place};
 ghost use Rattle.provider.specs.Calls.{AreWithout, HasImage, HasImageCause, HasRoom, IsDigestedAt, IsDigestShown, IsDropped, IsPut, IsQuiet, IsRevert, IsRoomMade, IsShown, IsThere, StopsAfter};
 ghost use Rattle.provider.specs.Words.{counted_as, LastsAt, NeverFails};
 ghost use Rattle.provider.specs.Preparing.{CanCutOn, HasJoined, HasStepCause, IsCutOn, refusal, step_taken};

@@ -18,8 +18,9 @@ use Rattle.scenario.specs.Names.{area_names}
 use Rattle.scenario.specs.SoFar.{SoFar, after, new_area, own_group, with_answer, line_count, agenda_count, answer_count}
 use Rattle.scenario.specs.SoFar as saying
 use Rattle.scenario.specs.Drafts.{DraftValue, with_entry, saying_in, names_after, counts_after, agendas_with, IsAreaRow, IsLaneRow, IsWithin, AreNames, AreCounts, IsDraft, IsEntry}
-use Rattle.scenario.proofs.Changes.{lines_more, agendas_more, lane_names_stay, lane_count_stays, lanes_more, lines_in_new, agendas_in_new, answers_more, writer_names_stay, writer_count_stays, writers_more, answers_in_new}
-use Rattle.scenario.proofs.Groups.{get_last, set_same, numbered_new, numbered_old, all_in_more_groups, in_new_group, in_old_group, areas_with_more_groups}
+use Rattle.scenario.proofs.Whole.{lines_more, agendas_more, lane_names_stay, lane_count_stays, lanes_more, lines_in_new, agendas_in_new, answers_more}
+use Rattle.scenario.proofs.Whole.{writer_names_stay, writer_count_stays, writers_more, answers_in_new}
+use Rattle.scenario.proofs.Places.{get_last, set_same, numbered_new, numbered_old, all_in_more_groups, in_new_group, in_old_group, areas_with_more_groups}
 
 -- ## the limits
 

@@ -26,8 +26,7 @@ use Rattle.scenario.specs.Fields.{bytes_of, span_of}
 use Rattle.scenario.specs.Ops.{◌>>=◌}
 use Rattle.scenario.specs.SoFar.{SoFar, Saying, Skipped, Opening, Area, OwnVolume, SharedVolume, Writer, Answer, Lane, Line, nothing, after, with_answer, with_line, closed, closed_lane, plan_in}
 use Rattle.scenario.specs.Declarations.{name_field, opening_of, area_of, own_volume_of, shared_volume_of, volume_of, writer_of, answer_of, free_lane_of, acting_lane_of, lane_of}
-use Rattle.scenario.specs.Entries.{line_of, row_of, placed_row_of, said_of, saying_of}
-use Rattle.scenario.specs.Grammar.{IsScenario, IsBad, goes_on, read_from, reading_of}
+use Rattle.scenario.specs.Grammar.{line_of, row_of, placed_row_of, said_of, saying_of, IsScenario, IsBad, goes_on, read_from, reading_of}
 use Rattle.scenario.specs.Named.{AllNamed, Differ, Distinct, volume_spans, writer_spans, lane_spans, Numbered, AllNumbered, IsNamed, HasNames}
 
 -- ## what one line says

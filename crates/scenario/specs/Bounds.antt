@@ -10,7 +10,7 @@ use Rattle.scenario.specs.declared.line.Line.TheVariants.{Writes, Reads, ShowsIm
 use Rattle.scenario.specs.Calls.{line_of}
 use Rattle.scenario.specs.declared.span.Span.{Span}
 use Rattle.scenario.specs.declared.volume_row.VolumeRow.{VolumeRow}
-use Rattle.writer_meta.specs.Allowed.{IsAllowed}
+use Rattle.writer_meta.specs.Document.{IsAllowed}
 use Rattle.writer_calls.specs.declared.scripted.Scripted.{Scripted}
 use Rattle.scenario.specs.Fields.{IsPart}
 use Rattle.scenario.specs.Plan.{Plan, GroupPlan, WriterPlan, LaneLine, LanePlan, blocks_in}

@@ -4,7 +4,7 @@
 use Rattle.std.specs.Prelude.{ℕ, ◌≡◌, ◌<◌, ◌≤◌, ◌+◌, ◌++◌, ◌&&◌, true, List, [], ◌∷◌, length, nat_le, nat_lt, if◌then◌else◌, Some, None, Result, Ok, Err, is_ok}
 use Rattle.std.specs.List.{list_all}
 use Rattle.writer_meta.specs.Metadata.{Meta, meta_of}
-use Rattle.writer_meta.specs.Allowed.{IsAllowed}
+use Rattle.writer_meta.specs.Document.{IsAllowed}
 use Rattle.writer_calls.specs.declared.scripted.Scripted.{Scripted}
 use Rattle.scenario.specs.declared.op.Op.{Op}
 use Rattle.scenario.specs.declared.op.Op.TheVariants as op
@@ -31,7 +31,7 @@ use Rattle.scenario.specs.Fields.{bytes_of}
 use Rattle.scenario.specs.Ops.{◌>>=◌, volume_at, block_at, writer_at, read_of, image_of, query_of, properties_of, revert_of, delete_of, tick_of, disable_of, add_of}
 use Rattle.scenario.specs.SoFar.{SoFar, Saying, after}
 use Rattle.scenario.specs.Declarations.{new_writer, writer_if, nth_field, answer_if}
-use Rattle.scenario.specs.Entries.{is_printable, has_lane, may_stand, line_if, row_of}
+use Rattle.scenario.specs.Grammar.{is_printable, has_lane, may_stand, line_if, row_of}
 use Rattle.scenario.specs.Drafts.{DraftValue, new_draft, names_after, counts_after, IsDraft}
 use Rattle.scenario.specs.Named.{IsNamed}
 

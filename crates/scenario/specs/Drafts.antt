@@ -2,7 +2,7 @@
 -- limited; and what holds of it after every line. (This project's own.)
 use Rattle.std.specs.Prelude.{ℕ, ◌≡◌, ◌<◌, ◌≤◌, ◌+◌, ◌++◌, Bool, true, false, List, [], ◌∷◌, length, All, find, Some, None, IfSome, slice_get, if◌then◌else◌, Result, Ok, Err}
 use Rattle.writer_meta.specs.Metadata.{meta_of}
-use Rattle.writer_meta.specs.Allowed.{IsAllowed}
+use Rattle.writer_meta.specs.Document.{IsAllowed}
 use Rattle.writer_calls.specs.declared.scripted.Scripted.{Scripted}
 use Rattle.writer_calls.specs.Script.{is_row_for}
 use Rattle.scenario.specs.declared.op.Op.{Op}

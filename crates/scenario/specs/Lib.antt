@@ -15,7 +15,6 @@ pub mod SoFar
 pub mod Drafts
 pub mod Ops
 pub mod Declarations
-pub mod Entries
 pub mod Named
 pub mod Messages
 pub mod Built

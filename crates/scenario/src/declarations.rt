@@ -7,7 +7,7 @@ ghost use Rattle.scenario.specs.Names.{place_of};
 ghost use Rattle.scenario.specs.SoFar.{group_for};
 ghost use Rattle.scenario.specs.Bounds.{IsShortPart};
 ghost use Rattle.scenario.specs.Drafts.{names_of, by_reason, IsDraft, IsEntry, told};
-ghost use Rattle.scenario.specs.Entries.{has_lane, may_stand, row_of};
+ghost use Rattle.scenario.specs.Grammar.{has_lane, may_stand, row_of};
 ghost use Rattle.scenario.specs.Declarations.{name_field, new_name, has_space, area_field, lane_if};
 
 use crate::area_row::AreaRow;
@@ -51,7 +51,7 @@ fn name_field(text: &[u8], kind: NameKind, taken: Option<usize>, span: Span) -> 
 }
 
 /// The name of one of this kind that is new.
-#[tactic(auto, using(crate::proofs::Taken::new_name_is))]
+#[tactic(auto, using(crate::proofs::Growing::new_name_is))]
 pub(crate) fn new_name(
     text: &[u8],
     draft: &Draft,
@@ -129,7 +129,7 @@ pub(crate) fn lane_if(draft: &Draft, name: Span, whom: Option<u32>) -> Result<En
 }
 
 /// What a line says that may stand here, and declares or begins a lane.
-#[tactic(auto, unfolding(crate::specs::Entries::row_of, crate::specs::Declarations::opening_of, crate::specs::Declarations::area_of, crate::specs::Declarations::own_volume_of, crate::specs::Declarations::shared_volume_of, crate::specs::Declarations::asked_of, crate::specs::Declarations::answer_of, crate::specs::Declarations::free_lane_of, crate::specs::Declarations::acting_lane_of))]
+#[tactic(auto, unfolding(crate::specs::Grammar::row_of, crate::specs::Declarations::opening_of, crate::specs::Declarations::area_of, crate::specs::Declarations::own_volume_of, crate::specs::Declarations::shared_volume_of, crate::specs::Declarations::asked_of, crate::specs::Declarations::answer_of, crate::specs::Declarations::free_lane_of, crate::specs::Declarations::acting_lane_of))]
 pub(crate) fn declaration_of(
     text: &[u8],
     draft: &Draft,

@@ -6,7 +6,7 @@ ghost use Rattle.scenario.specs.Bounds.{begins_agenda};
 ghost use Rattle.scenario.specs.SoFar.{line_count, agenda_count};
 ghost use Rattle.scenario.specs.Fields.{IsPart, AreFields, words_at};
 ghost use Rattle.scenario.specs.Drafts.{AreCounts, IsDraft, IsEntry, saying_in, told, IsUnread};
-ghost use Rattle.scenario.specs.Entries.{is_printable, is_skipped, has_lane, may_stand, has_line_room, line_if, line_of, row_of, said_of, saying_of};
+ghost use Rattle.scenario.specs.Grammar.{is_printable, is_skipped, has_lane, may_stand, has_line_room, line_if, line_of, row_of, said_of, saying_of};
 
 use crate::cause::Cause;
 use crate::counts::{Counts, begins_agenda};
@@ -115,7 +115,7 @@ pub(crate) fn line_if(draft: &Draft, number: u32, op: Op) -> Result<Entry, Cause
 }
 
 /// A line of the lane at hand.
-#[tactic(auto, unfolding(crate::specs::Entries::line_of, crate::specs::Ops::op_of))]
+#[tactic(auto, unfolding(crate::specs::Grammar::line_of, crate::specs::Ops::op_of))]
 fn line_of(
     text: &[u8],
     draft: &Draft,
@@ -138,7 +138,7 @@ fn line_of(
 }
 
 /// What a line says that may stand here.
-#[tactic(auto, unfolding(crate::specs::Entries::row_of))]
+#[tactic(auto, unfolding(crate::specs::Grammar::row_of))]
 fn placed_row_of(
     alloc: Global,
     text: &[u8],
@@ -199,7 +199,7 @@ fn said_of(
 }
 
 /// What a line says, with its number in the text.
-#[tactic(auto, unfolding(crate::specs::Entries::saying_of))]
+#[tactic(auto, unfolding(crate::specs::Grammar::saying_of))]
 pub(crate) fn entry_of(
     alloc: Global,
     text: &[u8],

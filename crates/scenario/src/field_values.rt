@@ -93,7 +93,7 @@ fn number_below(kind: NameKind, count: usize, field: Field) -> Result<u32, Cause
 }
 
 /// The number of what was declared.
-#[tactic(auto, using(crate::proofs::Taken::count_names))]
+#[tactic(auto, using(crate::proofs::Growing::count_names))]
 pub(crate) fn declared_field(
     text: &[u8],
     draft: &Draft,

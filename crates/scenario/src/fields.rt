@@ -45,7 +45,7 @@ pub(crate) fn word_at(text: &[u8], start: u32, end: u32) -> Span
 }
 
 /// The fields that follow a word which ends at `at`, up to `end`.
-#[tactic(auto, using(crate::proofs::Ranges::fields_many))]
+#[tactic(auto, using(crate::proofs::TextParts::fields_many))]
 fn fields_after(text: &[u8], at: u32, end: u32) -> Fields
     requires within { end ≤ length text.now }
     requires ordered { at ≤ end }

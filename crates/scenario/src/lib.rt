@@ -2,7 +2,7 @@
 //!
 //! `specs/Plan.antt` has what a scenario says, as the definitions read it. `specs/Grammar.antt` says which text is which
 //! scenario: the text is cut into lines, each line says something after the lines before it or is refused
-//! (`specs/Entries.antt`, with `specs/Declarations.antt` for what is declared and `specs/Ops.antt` for the lines of a lane),
+//! (`specs/Grammar.antt`, with `specs/Declarations.antt` for what is declared and `specs/Ops.antt` for the lines of a lane),
 //! and the first refused line is told: `reading_of`. `parse` is proved to answer exactly that, unless memory runs out.
 //! Contracts see a `Scenario` as its plan, which keeps to the limits of `specs/Bounds.antt` and has names by
 //! `specs/Named.antt`. Where each volume is among the groups (`specs/Places.antt`) is found once, when the text is read.

@@ -3,7 +3,7 @@ ghost use Rattle.scenario.specs.SoFar.{plan_in};
 ghost use Rattle.scenario.specs.Built.{nothing_built, with_value, IsRefusedBy, IsValue};
 ghost use Rattle.scenario.specs.declared.value.Value.TheVariants as value;
 ghost use Rattle.writer_meta.specs.Metadata.{meta_of};
-ghost use Rattle.writer_meta.specs.Allowed.{IsAllowed};
+ghost use Rattle.writer_meta.specs.Document.{IsAllowed};
 
 use crate::draft::Draft;
 use crate::given::Given;

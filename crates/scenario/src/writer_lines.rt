@@ -9,7 +9,7 @@ ghost use Rattle.scenario.specs.Drafts.{AreCounts, by_reason, IsDraft, IsEntry, 
 ghost use Rattle.scenario.specs.Declarations.{order_field, code_field, is_answered, nth_field, asked_of, row_for, answer_if, lost_if, veto_if, answer_of, writer_if, writer_of};
 ghost use Rattle.scenario.specs.Built.{writer_said, answer_said};
 ghost use Rattle.writer_meta.specs.Metadata.{meta_of};
-ghost use Rattle.writer_meta.specs.Allowed.{IsAllowed};
+ghost use Rattle.writer_meta.specs.Document.{IsAllowed};
 
 use crate::asked::Asked;
 use crate::cause::Cause;

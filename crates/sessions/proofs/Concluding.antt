@@ -1,20 +1,72 @@
--- What follows from a step of the course: an agenda ends, or the set in progress fails.
-use Rattle.sessions.proofs.Words.{length-map, Order, VssResult, SetOutcome, Running, Complete, Failed, History, Session, after_agenda, ended, Effects, CoordinatorState, KeepsWriters, Stands}
-use Rattle.sessions.proofs.Words.{IsOnTime, failed_if_running, writer_count, Tells, outcome_told, Told, State, SetRow, is_running, in_progress, ended_of, EndsAs, IsOfSession, NumberedFrom, has_failed}
-use Rattle.sessions.proofs.Words.{found_above, is_over_row, none_ends, none_over, settled_row, Ended, SessionMove, bare, current_of, running_in, SessionsValue, Keeps, IsInOrder}
-use Rattle.sessions.proofs.Words.{ended_so, ends_as, failed_set, nothing_ends, told_alone, told_of, without_images, CameTo, Concludes, HasCome, outcome_in, IsSameRow, find-map}
-use Rattle.std.proofs.Common.{◌≡◌, ℕ, ◌<◌, List, [], ◌∷◌, refl, ap, sym, ◌∙◌, subst, arith, Bool, true, false, Option, Some, None, map}
+-- What follows from a step of the course: an agenda ends, or the set in progress fails; and what is kept still stands, also who is disabled.
+use Rattle.std.proofs.Common.{◌≡◌, ℕ, List, refl, Bool, arith, ◌<◌, [], length, Option, map, ◌∷◌, ap, sym, ◌∙◌, subst, true, false, Some, None}
 use Rattle.std.specs.Prelude.{All, ◌&&◌, ◌||◌, not, is_some, find, option_map}
+use Rattle.set_agenda.specs.Course.{Course, posted, begun, told, worked, answered, stepped, timed, failed, released, failed as course_failed}
 use Rattle.set_agenda.specs.WriterSet.{writers, writers_of}
-use Rattle.set_agenda.specs.Course.{Course, failed as course_failed}
-use Rattle.vss_model.specs.declared.told.Told.TheVariants as told
-use Rattle.vss_model.specs.Ending.{Ending, AgendaEnds, NothingEnds, SetFails, ending, row_settled}
+use Rattle.vss_model.specs.Changes.{after_changes, fails}
+use Rattle.vss_model.specs.Steps.{Ending, AgendaEnds, NothingEnds, SetFails, ending, row_settled}
+use Rattle.vss_model.specs.declared.told.Told.TheVariants as as_told
+use Rattle.vss_model.proofs.Changes.{fails_now, goes_on_own}
 use Rattle.vss_model.proofs.StateForm.{followed, concluded, failed_in, images_dropped}
 use Rattle.sessions.proofs.Newest.{changed_none, current_bare, settled_bare}
-use Rattle.sessions.proofs.Keeping.{keeps_course, keeps_rows}
-use Rattle.sessions.proofs.Disabled.{disabled_failed}
-use Rattle.vss_model.specs.Changes.{after_changes, fails}
-use Rattle.vss_model.proofs.Changes.{fails_now, goes_on_own}
+use Rattle.sessions.proofs.Words.{VssResult, Said, Kind, Member, Held, Registered, begun_as, IsKeptInCourse, course_answered, course_begun, course_stepped}
+use Rattle.sessions.proofs.Words.{course_timed, History, Session, Sessions as Requestor, Named, Pair, CoordinatorState, Stands, IsOnTime, writer_count, State}
+use Rattle.sessions.proofs.Words.{SetRow, bare, SessionsValue, Keeps, selected, length-map, Order, SetOutcome, Running, Complete, Failed, after_agenda, ended}
+use Rattle.sessions.proofs.Words.{Effects, KeepsWriters, failed_if_running, Tells, outcome_told, Told, is_running, in_progress, ended_of, EndsAs, IsOfSession}
+use Rattle.sessions.proofs.Words.{NumberedFrom, has_failed, found_above, is_over_row, none_ends, none_over, settled_row, Ended, SessionMove, current_of}
+use Rattle.sessions.proofs.Words.{running_in, IsInOrder, ended_so, ends_as, failed_set, nothing_ends, told_alone, told_of, without_images, CameTo, Concludes}
+use Rattle.sessions.proofs.Words.{HasCome, outcome_in, IsSameRow, find-map}
+
+-- ## Who is disabled stays, whatever is said or begins.
+
+still : (ds : List ℕ) → IsKeptInCourse (λ (c : Course). c.disabled ≡ ds)
+unfolding posted told worked failed
+still ds = record { posts = λ b c h. h; says = λ o said now ws c h. h; works = λ now c h. h; fails = λ why c h. h; closes = λ k c h. h }
+
+pub disabled_answered : (w : ℕ) (said : Said) (now : ℕ) (c : Course) → (answered w said now c).disabled ≡ c.disabled
+disabled_answered w said now c = course_answered (λ (d : Course). d.disabled ≡ c.disabled) (still c.disabled) w said now c refl
+
+pub disabled_stepped : (ok : Bool) (now : ℕ) (c : Course) → (stepped ok now c).disabled ≡ c.disabled
+disabled_stepped ok now c = course_stepped (λ (d : Course). d.disabled ≡ c.disabled) (still c.disabled) ok now c refl
+
+pub disabled_timed : (now : ℕ) (c : Course) → (timed now c).disabled ≡ c.disabled
+disabled_timed now c = course_timed (λ (d : Course). d.disabled ≡ c.disabled) (still c.disabled) now c refl
+
+pub disabled_failed : (why : VssResult) (c : Course) → (failed why c).disabled ≡ c.disabled
+disabled_failed why c = (still c.disabled).fails why c refl
+
+disabled_begun : (k : Kind) (ms : List Member) (vs : List ℕ) (now : ℕ) (c : Course) → (begun k ms vs now c).disabled ≡ c.disabled
+disabled_begun k ms vs now c = course_begun (λ (d : Course). d.disabled ≡ c.disabled) (still c.disabled) k ms vs now c refl
+
+pub disabled_begun_as : (k : Kind) (ws : List Registered) (h : Held) (vs : List ℕ) (now : ℕ) (c : Course) → (begun_as k ws h vs now c).disabled ≡ c.disabled
+disabled_begun_as k ws h vs now c = grind (arith, disabled_begun)
+
+-- ## What is kept still stands for a state after a part of both changed.
+
+-- the coordinator goes on
+pub keeps_course : (x : SessionsValue) (k : CoordinatorState) (st : State) (c : Course) → Keeps x st → Stands k c → writer_count k ≡ writer_count x.coordinator
+    → IsOnTime x.clock k → All (λ w. w < writer_count x.coordinator) c.disabled → Keeps (record x { coordinator = k }) (record st { course = c })
+keeps_course x k st c kept stands count times known = grind arith
+
+-- the sets and the session go on, and the images
+pub keeps_rows : (x : SessionsValue) (st : State) (r : Requestor) (q : Option Session) (rows sets : List SetRow) (hs : List History) → Keeps x st → r.session ≡ q → r.sets_made ≡ length sets
+    → rows ≡ map bare sets → Keeps (record x { requestor = r; sets = rows }) (record st { session = q; sets = sets; volumes = hs })
+keeps_rows x st r q rows sets hs kept session made same = grind arith
+
+-- another session, in which this is named
+pub keeps_named : (x : SessionsValue) (st : State) (r : Requestor) (q : Option Session) (h : Held) (ps : List Pair) → Keeps x st → r.session ≡ q → r.sets_made ≡ x.requestor.sets_made
+    → h.selected ≡ Named ps → h.writers ≡ writer_count x.coordinator → Keeps (record x { requestor = r; selection = h }) (record st { session = q; explicit = ps })
+keeps_named x st r q h ps kept session made named over = grind arith
+
+-- the session is over
+pub closes : (x : SessionsValue) (r : Requestor) (k : CoordinatorState) (st : State) (hs : List History) → Keeps x st → r.session ≡ None → r.sets_made ≡ x.requestor.sets_made
+    → Stands k (released st.course) → IsOnTime x.clock k
+    → Keeps (record { requestor = r; coordinator = k; sets = x.sets; clock = x.clock; selection = record { writers = writer_count k; selected = Named [] } })
+    (record { session = None; explicit = []; sets = st.sets; course = released st.course; volumes = hs; clock = st.clock })
+unfolding released
+closes x r k st hs kept session made stands times = grind arith
+
+-- ## What follows from a step of the course: an agenda ends, or the set in progress fails.
 
 pub nobody : writers_of 0 ≡ []
 unfolding writers
@@ -162,30 +214,30 @@ outcome_failed why c = refl
 
 pub fails_so : (old new : SessionsValue) (k : CoordinatorState) (st : State) (why : VssResult) (n : ℕ) (m : SessionMove) → IsInOrder st → Keeps old st → Some n ≡ current_of old.sets
     → Stands k (failed_if_running st.course.outcome why st.course) → KeepsWriters old.coordinator k → IsOnTime old.clock k → new ≡ ended_so (Failed why) (record old { coordinator = k })
-    → m ≡ told_of told.Ok 0 None (ends_as (Some n) (Failed why)) → CameTo told.Ok st (after_changes st (fails (in_progress st) why st)) new m
-fails_so old new k st why n m order kept current stands writers times is moved = subst (λ x. CameTo told.Ok st x new m) (sym (fails_now why st)) (by_found (in_progress st) refl)
+    → m ≡ told_of as_told.Ok 0 None (ends_as (Some n) (Failed why)) → CameTo as_told.Ok st (after_changes st (fails (in_progress st) why st)) new m
+fails_so old new k st why n m order kept current stands writers times is moved = subst (λ x. CameTo as_told.Ok st x new m) (sym (fails_now why st)) (by_found (in_progress st) refl)
   where
     known : Some n ≡ current_of st.sets
     known = current ∙ current_kept old st kept
 
-    by_found : (found : Option SetRow) → in_progress st ≡ found → CameTo told.Ok st (failed_in found why st) new m
+    by_found : (found : Option SetRow) → in_progress st ≡ found → CameTo as_told.Ok st (failed_in found why st) new m
     by_found None e = absurd (let none : Some n ≡ None = known ∙ ap (option_map (λ (r : SetRow). r.number)) e in cc)
     by_found (Some r) e =
         let running = outcome_in st.session st.course.outcome r (subst (IsOfSession st.session st.course.outcome) e order.session) in
         let fails : Stands k (course_failed why st.course) = subst (λ (o : SetOutcome). Stands k (failed_if_running o why st.course)) running stands in
         let mid = keeps_course old k st (course_failed why st.course) kept fails writers.count times
         (subst (λ (ds : List ℕ). All (λ w. w < writer_count old.coordinator) ds) (sym (disabled_failed why st.course)) kept.disabled) in
-        let came = settles (record old { coordinator = k }) st (course_failed why st.course) order mid (Failed why) _ _ told.Ok 0 None refl
+        let came = settles (record old { coordinator = k }) st (course_failed why st.course) order mid (Failed why) _ _ as_told.Ok 0 None refl
         (ap (λ (o : SetOutcome). map (row_settled o) st.sets) (sym (outcome_failed why st.course))) (volumes_failed (in_progress st) why st.volumes) in
-        let told_so = subst (λ (x : SessionMove). HasCome told.Ok (writers_of 0) None (in_progress st) st.volumes (failed_in (Some r) why st)
+        let told_so = subst (λ (x : SessionMove). HasCome as_told.Ok (writers_of 0) None (in_progress st) st.volumes (failed_in (Some r) why st)
         (ended_so (Failed why) (record old { coordinator = k })) x)
-        (sym (moved ∙ ap (λ (x : Option ℕ). told_of told.Ok 0 None (ends_as x (Failed why))) known)) came in
-        subst (λ (ws : List ℕ). HasCome told.Ok ws None (in_progress st) st.volumes (failed_in (Some r) why st) new m) nobody
-        (subst (λ (x : SessionsValue). HasCome told.Ok (writers_of 0) None (in_progress st) st.volumes (failed_in (Some r) why st) x m) (sym is) told_so)
+        (sym (moved ∙ ap (λ (x : Option ℕ). told_of as_told.Ok 0 None (ends_as x (Failed why))) known)) came in
+        subst (λ (ws : List ℕ). HasCome as_told.Ok ws None (in_progress st) st.volumes (failed_in (Some r) why st) new m) nobody
+        (subst (λ (x : SessionsValue). HasCome as_told.Ok (writers_of 0) None (in_progress st) st.volumes (failed_in (Some r) why st) x m) (sym is) told_so)
 
 -- no set is in progress
-pub fails_not : (x : SessionsValue) (st : State) (why : VssResult) (m : SessionMove) → IsInOrder st → Keeps x st → None ≡ current_of x.sets → m ≡ told_alone told.Ok
-    → CameTo told.Ok st (after_changes st (fails (in_progress st) why st)) x m
-fails_not x st why m order kept current is = subst (λ y. CameTo told.Ok st y x m) (sym (fails_now why st)) stays where
-  stays : CameTo told.Ok st (failed_in (in_progress st) why st) x m
+pub fails_not : (x : SessionsValue) (st : State) (why : VssResult) (m : SessionMove) → IsInOrder st → Keeps x st → None ≡ current_of x.sets → m ≡ told_alone as_told.Ok
+    → CameTo as_told.Ok st (after_changes st (fails (in_progress st) why st)) x m
+fails_not x st why m order kept current is = subst (λ y. CameTo as_told.Ok st y x m) (sym (fails_now why st)) stays where
+  stays : CameTo as_told.Ok st (failed_in (in_progress st) why st) x m
   stays = grind (arith, no_row, current_kept, nobody, no_end)

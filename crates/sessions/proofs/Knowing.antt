@@ -15,10 +15,8 @@ use Rattle.scenario.specs.declared.op.Op.TheVariants as op
 use Rattle.vss_model.specs.declared.told.Told.TheVariants as told
 use Rattle.vss_model.specs.Sessions.{is_disabled, has_failed_identify, is_identify_failure, is_known, meta_if, known_from, known_metas, selected, selected_in}
 use Rattle.vss_model.proofs.StateForm.{line_in, component_in, named_as}
-use Rattle.sessions.proofs.Lines.{alone, line_of, refuses}
-use Rattle.sessions.proofs.AgendaLines.{pends, is_disabled_same, volume_test}
-use Rattle.sessions.proofs.Concluding.{no_end}
-use Rattle.sessions.proofs.Keeping.{keeps_named}
+use Rattle.sessions.proofs.Lines.{alone, line_of, refuses, pends, is_disabled_same, volume_test}
+use Rattle.sessions.proofs.Concluding.{no_end, keeps_named}
 
 -- ## whom the session knows
 

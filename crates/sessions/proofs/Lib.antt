@@ -1,11 +1,6 @@
 pub mod Words
 pub mod Newest
-pub mod Keeping
 pub mod Concluding
-pub mod Moving
-pub mod Disabled
 pub mod CourseSteps
 pub mod Lines
-pub mod AgendaLines
-pub mod Adding
 pub mod Knowing

@@ -1,24 +1,31 @@
--- The session lines that the checks let go: what each comes to.
-use Rattle.sessions.proofs.Words.{All-push, Context, SetOutcome, Running, VssResult, BadState, AsyncCancelled, UnsupportedContext, Clean, History, WriterRow}
-use Rattle.sessions.proofs.Words.{released, Go, Session, context_of, opened, started, makes_set, applied, ended as ended_session, check_begin, check_other}
-use Rattle.sessions.proofs.Words.{CoordinatorState, KeepsWriters, Stands, IsOnTime, writer_count, named, Op, Plan, Told, Reply, Fine, Coded, Numbered, StatusOf, State, SetRow}
-use Rattle.sessions.proofs.Words.{in_progress, ended_of, IsOfSession, HasLists, EndsAs, Fits, mark_of, Goes, SessionMove, bare, SessionsValue, Keeps, IsAt, IsInOrder, nothing_named_in, failed_set}
-use Rattle.sessions.proofs.Words.{released_by, told_alone, without_images, CameTo, ComesTo}
-use Rattle.std.proofs.Common.{◌≡◌, ℕ, ◌+◌, ◌<◌, List, [], ◌∷◌, ◌++◌, length, refl, ap, sym, ◌∙◌, subst, arith, Bool, true, false, Option, Some, None, map}
-use Rattle.std.specs.Prelude.{is_some, option_map, option_and_then, unwrap_or}
+-- The session lines that the checks let go: what each comes to, those that begin an agenda, and a volume that joins the set.
+use Rattle.std.proofs.Common.{◌≡◌, ℕ, ◌+◌, ◌<◌, List, [], ◌∷◌, ◌++◌, length, refl, ap, sym, ◌∙◌, subst, arith, Bool, true, false, Option, Some, None, map, zero}
+use Rattle.std.proofs.Common.{suc, ◌==◌, slice_get}
+use Rattle.std.specs.Prelude.{is_some, option_map, option_and_then, unwrap_or, All, ◌||◌, IfOk, Result}
+use Rattle.set_agenda.specs.declared.kind.Kind.TheVariants as kind
 use Rattle.requestor.specs.declared.session_call.SessionCall.TheVariants as call
 use Rattle.scenario.specs.declared.op.Op.TheVariants as op
+use Rattle.vss_model.specs.Changes.{after_changes, goes_on}
+use Rattle.vss_model.specs.Steps.{runs}
+use Rattle.vss_model.specs.Sessions.{new_set, new_number, call_reply, has_no_volume, volumes_of, is_disabled}
 use Rattle.vss_model.specs.declared.told.Told.TheVariants as told
-use Rattle.vss_model.specs.Ending.{runs}
-use Rattle.vss_model.proofs.StateForm.{Replied, failed, line_in, session_line, begin_in, start_set, images_released, closed, await_last}
-use Rattle.vss_model.specs.Sessions.{new_set, new_number}
-use Rattle.vss_model.specs.Changes.{after_changes}
-use Rattle.vss_model.specs.Sessions.{call_reply}
-use Rattle.vss_model.proofs.Changes.{line_is}
+use Rattle.vss_model.proofs.Changes.{line_is, goes_on_own}
+use Rattle.vss_model.proofs.StateForm.{Replied, failed, line_in, session_line, begin_in, start_set, images_released, closed, await_last, pending}
 use Rattle.sessions.specs.Moves.{changes_of}
-use Rattle.sessions.proofs.Concluding.{no_end, nobody}
-use Rattle.sessions.proofs.Keeping.{keeps_course, keeps_named, keeps_rows, closes}
-use Rattle.sessions.proofs.Newest.{append_bare}
+use Rattle.sessions.proofs.Concluding.{no_end, nobody, ended_mapped, keeps_course, keeps_named, keeps_rows, closes}
+use Rattle.sessions.proofs.CourseSteps.{Happens, line_happens}
+use Rattle.sessions.proofs.Newest.{append_bare, unseen_bare}
+use Rattle.sessions.proofs.Words.{All-push, Context, SetOutcome, Running, VssResult, BadState, AsyncCancelled, UnsupportedContext, Clean, History, WriterRow}
+use Rattle.sessions.proofs.Words.{released, Go, Session, context_of, opened, started, makes_set, applied, ended as ended_session, check_begin, check_other}
+use Rattle.sessions.proofs.Words.{CoordinatorState, KeepsWriters, Stands, IsOnTime, writer_count, named, Op, Plan, Told, Reply, Fine, Coded, Numbered, StatusOf}
+use Rattle.sessions.proofs.Words.{State, SetRow, in_progress, ended_of, IsOfSession, HasLists, EndsAs, Fits, mark_of, Goes, SessionMove, bare, SessionsValue}
+use Rattle.sessions.proofs.Words.{Keeps, IsAt, IsInOrder, nothing_named_in, failed_set, released_by, told_alone, without_images, CameTo, ComesTo, list_any}
+use Rattle.sessions.proofs.Words.{OutOfMemory, AsyncPending, Course, gathered, Held, Registered, class_at, are_equal, is_disabled as is_disabled_kept}
+use Rattle.sessions.proofs.Words.{members-agree, WriterPlan, class_of, class_in, followed, IsOf, classes_registered, classes_of, HasBegun, IsAtOver, cond-false}
+use Rattle.sessions.proofs.Words.{cond-true, after, length-map, check, Line, row_changed, add_refusal, add_to, change_set, with_volume, IsSameRow, numbered-map}
+use Rattle.sessions.proofs.Words.{same_changed, none_ends}
+
+-- ## The session lines that the checks let go: what each comes to.
 
 -- of an owner's call, the line is the session's
 pub line_of : (s : Plan) (lane : ℕ) (op : Op) (st : State) (q : Session) → st.session ≡ Some q → line_in s lane op st.session st ≡ session_line s lane op q st
@@ -206,3 +213,114 @@ ends {s = s} {lane = lane} {st = st} {y = y} moved set owner kept came none is c
 
 pub owner_kept : (o : SetOutcome) (q : Option Session) → option_map (λ (z : Session). z.owner) (option_map (ended_session o) q) ≡ option_map (λ (z : Session). z.owner) q
 owner_kept o q = grind arith
+
+-- ## The session lines that begin an agenda.
+
+-- what began, as a line
+pub pends : {s : Plan} {lane : ℕ} {op_ : Op} {st : State} {new : SessionsValue} {m : SessionMove} (c : Course) → line_in s lane op_ st.session st ≡ pending c st
+    → CameTo (told.Result AsyncPending) st (after_changes st (goes_on true c st)) new m → ComesTo s lane op_ st new m
+pends {s = s} {lane = lane} {op_ = op_} {st = st} {new = new} {m = m} c does came = record {
+  told = told.Result AsyncPending;
+  reply = Coded AsyncPending;
+  after = followed true c st;
+  says = says_so s lane op_ st _ _ does;
+  does = does_so s lane op_ st _ _ does;
+  fits = λ tells. refl;
+  lists = λ listed rows e. tt;
+  clean = refl;
+  came = subst (λ x. CameTo (told.Result AsyncPending) st x new m) (goes_on_own true c st) came;
+}
+
+-- ## complete and snapshot
+
+pub volume_test : (o : Option SetRow) (vs : List ℕ) → vs ≡ volumes_of o → (length vs == 0) ≡ has_no_volume o
+volume_test o vs e = grind arith
+
+pub completes : {s : Plan} {lane : ℕ} {st : State} {old new : SessionsValue} {m : SessionMove} (h : Held) → Goes st.session (runs st) call.Complete → IsAt old s st
+    → HasBegun kind.Complete h [] old new m → ComesTo s lane op.Complete st new m
+completes {s = s} {lane = lane} {st = st} h owner at has = pends _ (line_of s lane op.Complete st owner.own owner.is) (has st _ at.order at.keeps refl)
+
+pub snapshots : {s : Plan} {lane : ℕ} {st : State} {old new : SessionsValue} {m : SessionMove} (h : Held) (vs : List ℕ) → Goes st.session (runs st) call.Snapshot → IsAtOver vs old s st
+    → (length vs == 0) ≡ false → HasBegun kind.Snapshot h vs old new m
+    → ComesTo s lane op.Snapshot st new m
+snapshots {s = s} {lane = lane} {st = st} {old = old} {new = new} {m = m} h vs owner at some has =
+    pends _ (line_of s lane op.Snapshot st owner.own owner.is ∙ cond-false (has_no_volume (in_progress st)) _ _ (sym (volume_test (in_progress st) vs at.volumes) ∙ some))
+    (subst (λ (xs : List ℕ). HasBegun kind.Snapshot h xs old new m) at.volumes has st _ at.at.order at.at.keeps refl)
+
+pub snapshots_not : {s : Plan} {lane : ℕ} {st : State} {x : SessionsValue} {m : SessionMove} (vs : List ℕ) → Goes st.session (runs st) call.Snapshot → IsAtOver vs x s st → (length vs == 0) ≡ true
+    → m ≡ told_alone (told.Result BadState) → ComesTo s lane op.Snapshot st x m
+snapshots_not {s = s} {lane = lane} {st = st} vs owner at none is =
+    refuses BadState is (line_of s lane op.Snapshot st owner.own owner.is ∙ cond-true (has_no_volume (in_progress st)) _ _ (sym (volume_test (in_progress st) vs at.volumes) ∙ none)) at.at
+
+-- ## gather: who is disabled is told by the classes
+
+class_same : (ws : List Registered) (ps : List WriterPlan) (w : ℕ) → classes_registered ws ≡ classes_of ps → w < length ps → class_at ws w ≡ Some (class_in (slice_get ps w))
+class_same [] [] w e l = absurd (omega (arith, l))
+class_same [] (p ∷ ps) w e l = cc
+class_same (r ∷ ws) [] w e l = cc
+class_same (r ∷ ws) (p ∷ ps) zero e l = let same : r.class ≡ p.meta.class = cc in ap Some same
+class_same (r ∷ ws) (p ∷ ps) (suc w) e l = class_same ws ps w (let rest : classes_registered ws ≡ classes_of ps = cc in rest) (omega (arith, l))
+
+disabled_same : (x : SessionsValue) (s : Plan) → IsOf x s → (ds : List ℕ) (w : ℕ) → All (λ d. d < writer_count x.coordinator) ds → w < writer_count x.coordinator
+    → is_disabled_kept x.coordinator.writers ds w ≡ list_any (λ d. class_of s d == class_of s w) ds
+disabled_same x s of [] w h l = refl
+disabled_same x s of (d ∷ ds) w h l =
+    let here = class_same x.coordinator.writers s.writers w of.classes (let n = of.count in omega (arith, l, n)) in
+    let there = class_same x.coordinator.writers s.writers d of.classes (let n = of.count in let k : d < writer_count x.coordinator = h 0 0 (omega arith) in omega (arith, k, n)) in
+    ap (λ (b : Bool). b || is_disabled_kept x.coordinator.writers ds w) (ap (λ (a : Option ℕ). are_equal a (class_at x.coordinator.writers w)) there ∙ ap (are_equal (Some (class_of s d))) here)
+    ∙ ap (λ (b : Bool). (class_of s d == class_of s w) || b) (disabled_same x s of ds w (rest d ds h) l)
+  where
+    rest : (d : ℕ) (ds : List ℕ) → All (λ e. e < writer_count x.coordinator) (d ∷ ds) → All (λ e. e < writer_count x.coordinator) ds
+    rest d ds h k e l = h (suc k) e (omega (arith, l))
+
+pub is_disabled_same : (x : SessionsValue) (s : Plan) (st : State) (w : ℕ) → Keeps x st → IsOf x s → w < writer_count x.coordinator
+    → is_disabled_kept x.coordinator.writers st.course.disabled w ≡ is_disabled s st w
+is_disabled_same x s st w kept of l = disabled_same x s of st.course.disabled w kept.disabled l
+
+gathered_same : (x : SessionsValue) (s : Plan) (st : State) → Keeps x st → IsOf x s
+    → gathered (is_disabled_kept x.coordinator.writers st.course.disabled) st.clock st.course ≡ gathered (is_disabled s st) st.clock st.course
+gathered_same x s st kept of = grind (arith, members-agree, is_disabled_same)
+
+pub gathers : {s : Plan} {lane : ℕ} {st : State} {old new : SessionsValue} {m : SessionMove} (h : Held) → Goes st.session (runs st) call.Gather → IsAt old s st → HasBegun kind.Gather h [] old new m
+    → ComesTo s lane op.Gather st new m
+gathers {s = s} {lane = lane} {st = st} {old = old} h owner at has = pends _ (line_of s lane op.Gather st owner.own owner.is) (has st _ at.order at.keeps (sym (gathered_same old s st at.keeps at.of)))
+
+-- ## an answer that is Ok
+
+pub then_ok : {P Q : SessionMove → Type 0} (r : Result SessionMove OutOfMemory) → ((m : SessionMove) → P m → Q m) → IfOk r P → IfOk r Q
+then_ok r f h = grind arith
+
+-- ## A volume joins the set in progress: what is kept here does not change, and what the volume is refused for is the
+-- provider's to say.
+
+-- ## the checks let it go
+
+-- ## what it comes to
+
+module _ (s : Plan) (lane v : ℕ) (st : State) (x : SessionsValue) (r : SetRow) where
+  add_line : check st.session (runs st) lane call.Add ≡ Go → in_progress st ≡ Some r → line_in s lane (op.Add v) st.session st ≡ add_to v r (add_refusal v r st) st
+  add_line goes here = grind arith
+
+  -- the change keeps numbers and results
+  same : IsSameRow (row_changed r.number (with_volume v))
+  same = same_changed r.number (with_volume v) (λ q. refl) (λ q. refl)
+
+  -- the volume is refused
+  pub adds_not : (why : VssResult) → check st.session (runs st) lane call.Add ≡ Go → IsInOrder st → Keeps x st → in_progress st ≡ Some r → add_refusal v r st ≡ Some why
+      → Happens s st (Line lane (op.Add v)) x (told_alone (told.Result why))
+  adds_not why goes order kept here refused =
+      line_happens s st lane (op.Add v) call.Add refl x (told_alone (told.Result why)) goes
+      (alone (told.Result why) (Coded why) st refl (add_line goes here ∙ ap (λ (o : Option VssResult). add_to v r o st) refused) (λ tells. refl) (λ listed rows e. tt) refl (no_end st order) refl kept)
+
+  -- the volume joins the set
+  pub adds : check st.session (runs st) lane call.Add ≡ Go → IsInOrder st → Keeps x st → in_progress st ≡ Some r → add_refusal v r st ≡ None
+      → Happens s st (Line lane (op.Add v)) x (told_alone told.Ok)
+  adds goes order kept here free =
+      let rows = map (row_changed r.number (with_volume v)) st.sets in
+      let none_ended : ended_of (in_progress st) rows ≡ None =
+      sym (ended_mapped (row_changed r.number (with_volume v)) same st.sets rows) ∙ none_ends rows (numbered-map (row_changed r.number (with_volume v)) same.number 1 st.sets order.numbered) in
+      line_happens s st lane (op.Add v) call.Add refl x (told_alone told.Ok) goes
+      (alone told.Ok Fine (change_set r.number (with_volume v) st) refl (add_line goes here ∙ ap (λ (o : Option VssResult). add_to v r o st) free) (λ tells. refl) (λ listed rows e. tt) refl
+      (subst (λ (o : Option SetRow). EndsAs o 0 Running) (sym none_ended) refl) refl
+      (keeps_rows x st x.requestor st.session x.sets _ st.volumes kept kept.session (kept.made ∙ sym (length-map st.sets (row_changed r.number (with_volume v))))
+      (kept.sets ∙ sym (unseen_bare (with_volume v) (λ q. refl) r.number st.sets))))

@@ -1,6 +1,6 @@
 ghost use Rattle.std.specs.Prelude.{◌≡◌, false, true, IfOk, OnErr};
 ghost use Rattle.coordinator.specs.Coordinator.{MayPost, writer_count};
-ghost use Rattle.set_agenda.specs.Begin.{are_distinct};
+ghost use Rattle.set_agenda.specs.Advance.{are_distinct};
 ghost use Rattle.scenario.specs.Plan.{Plan};
 ghost use Rattle.scenario.specs.declared.op.Op.TheVariants as op;
 ghost use Rattle.sessions.specs.Keeps.{Leaves};

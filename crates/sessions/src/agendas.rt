@@ -1,9 +1,9 @@
 ghost use Rattle.std.specs.Prelude.{◌≡◌, ◌<◌, ◌≤◌, ◌+◌, ◌^◌, ℕ, false, true, option_map, unwrap_or, IfOk, OnErr};
-ghost use Rattle.component_doc.specs.Held.{Held};
+ghost use Rattle.component_doc.specs.Over.{Held};
 ghost use Rattle.coordinator.specs.Coordinator.{MayPost, IsOnTime, runs, writer_count};
 ghost use Rattle.scenario.specs.Plan.{Plan};
 ghost use Rattle.scenario.specs.declared.op.Op.TheVariants.{Tick};
-ghost use Rattle.set_agenda.specs.Begin.{are_distinct};
+ghost use Rattle.set_agenda.specs.Advance.{are_distinct};
 ghost use Rattle.tick_limits.specs.Time.{answer_limit};
 ghost use Rattle.vss_model.specs.declared.event.Event.TheVariants.{Line, Idle};
 ghost use Rattle.sessions.specs.Keeps.{IsAt, IsStanding, Leaves, LeavesWithin, later_by};

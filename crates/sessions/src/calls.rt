@@ -1,7 +1,7 @@
 ghost use Rattle.std.specs.Prelude.{◌≡◌, true, false, is_some, IfOk, IfSome, IsErr, OnErr};
 ghost use Rattle.scenario.specs.Bounds.{IsOp, IsPlan};
 ghost use Rattle.scenario.specs.Calls.{call_of};
-ghost use Rattle.set_agenda.specs.Begin.{are_distinct};
+ghost use Rattle.set_agenda.specs.Advance.{are_distinct};
 ghost use Rattle.vss_model.specs.declared.event.Event.TheVariants.{Line};
 ghost use Rattle.sessions.specs.Keeps.{IsStandingIn, Leaves};
 ghost use Rattle.sessions.specs.Moves.{IsAtOver, IsCall, IsGoneAs, LetsGo, LetsGoAtRest, is_add, takes_memory};

@@ -1,5 +1,5 @@
 ghost use Rattle.std.specs.Prelude.{◌≡◌, ◌<◌, ◌+◌, ◌++◌, ◌∷◌, [], map, length, option_map, IfOk, OnOk};
-ghost use Rattle.component_doc.specs.Held.{metas_of};
+ghost use Rattle.component_doc.specs.Over.{metas_of};
 ghost use Rattle.coordinator.specs.Coordinator.{writer_count};
 ghost use Rattle.scenario.specs.Plan.{Plan};
 ghost use Rattle.writer_meta.specs.Metadata.{meta_of};

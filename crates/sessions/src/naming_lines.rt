@@ -1,10 +1,10 @@
 ghost use Rattle.std.specs.Prelude.{◌≡◌, ◌<◌, ◌^◌, false, true, length, Some, None, IfOk, OnErr};
 ghost use Rattle.coordinator.specs.Coordinator.{writer_count};
-ghost use Rattle.set_agenda.specs.Begin.{are_distinct};
+ghost use Rattle.set_agenda.specs.Advance.{are_distinct};
 ghost use Rattle.scenario.specs.Bounds.{IsPlan, IsSpan};
 ghost use Rattle.scenario.specs.declared.op.Op.TheVariants as op;
 ghost use Rattle.sessions.specs.Keeps.{IsStandingIn, Leaves};
-ghost use Rattle.block_data.specs.Digest.{sha256};
+ghost use Rattle.block_data.specs.BlockBytes.{sha256};
 ghost use Rattle.sessions.specs.Moves.{IsDocumentIn, IsGoneAs, IsGoneIn, LetsGo, takes_all_of};
 ghost use Rattle.sessions.specs.Concluded.{told_named};
 

@@ -6,7 +6,7 @@ ghost use Rattle.coordinator.specs.OpenOrders.{standing_in};
 ghost use Rattle.set_agenda.specs.Agenda.{is_asking};
 ghost use Rattle.scenario.specs.Plan.{Plan};
 ghost use Rattle.vss_model.specs.Acts.{may_call};
-ghost use Rattle.vss_model.specs.Ending.{runs as agenda_runs};
+ghost use Rattle.vss_model.specs.Steps.{runs as agenda_runs};
 ghost use Rattle.vss_model.specs.State.{State, is_frozen, is_held, is_kept_set, left_now, row_of, start};
 ghost use Rattle.sessions.specs.Keeps.{IsInOrder, Keeps};
 ghost use Rattle.sessions.specs.Moves.{IsNextStep, LetsGoAtRest, MayAdd};

@@ -1,8 +1,7 @@
 ghost use Rattle.std.specs.Prelude.{◌≡◌, true};
-ghost use Rattle.vss_model.specs.Ending.{row_settled};
+ghost use Rattle.vss_model.specs.Steps.{row_settled, with_cut};
 ghost use Rattle.vss_model.specs.Sessions.{new_set};
 ghost use Rattle.vss_model.specs.State.{is_running, is_complete};
-ghost use Rattle.vss_model.specs.Steps.{with_cut};
 ghost use Rattle.sessions.specs.Sets.{facts_of, running_changed};
 
 use crate::set_facts::SetFacts;

@@ -1,8 +1,7 @@
 ghost use Rattle.std.specs.Prelude.{◌≡◌, ◌+◌, ◌++◌, ◌∷◌, ◌==◌, [], length, map, find, option_map, OnOk, OnErr, None};
-ghost use Rattle.vss_model.specs.Ending.{row_settled};
+ghost use Rattle.vss_model.specs.Steps.{row_settled, with_cut};
 ghost use Rattle.vss_model.specs.Sessions.{new_set};
 ghost use Rattle.vss_model.specs.State.{SetRow};
-ghost use Rattle.vss_model.specs.Steps.{with_cut};
 ghost use Rattle.sessions.specs.Sets.{current_of, facts_of, is_complete_in, running_changed, running_in};
 
 use crate::set_entry::SetEntry;

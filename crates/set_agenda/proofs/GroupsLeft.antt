@@ -6,13 +6,13 @@ use Rattle.std.specs.List.{list_any}
 use Rattle.std.proofs.lemmas.Bool.Decides.{nat_tests}
 use Rattle.std.proofs.lemmas.List.Elements.{filter_agree}
 use Rattle.std.proofs.lemmas.Grind.{common_steps}
+use Rattle.std.proofs.Math.Bool.{and_comm, and_self}
 use Rattle.vss_names.specs.declared.level.Level.{Level}
 use Rattle.vss_names.specs.declared.order.Order.TheVariants.{Identify, PrepareBackup, PrepareSnapshot, Freeze, Thaw, PostSnapshot, BackupComplete}
 use Rattle.writer_state.specs.declared.said.Said.{Said}
 use Rattle.writer_state.specs.WriterState.{is_ok}
 use Rattle.set_agenda.specs.declared.group.Group.{Group}
 use Rattle.set_agenda.specs.declared.group.Group.TheVariants.{Orders, PreCommit, Flush, Hold, Cut, Commit, Release, PostCommit}
-use Rattle.set_agenda.specs.declared.kind.Kind.{Kind}
 use Rattle.set_agenda.specs.declared.place.Place.{Place}
 use Rattle.set_agenda.specs.Agenda.{Agenda, Entry, Open, all_say, at_place, groups_left, has_failed, has_said, is_among, is_asking, is_orders, left_from}
 use Rattle.set_agenda.specs.Agenda.{members_of, open_place, places, same_place, waited_for, waits_now, with_group, writers_at}
@@ -25,29 +25,20 @@ use Rattle.set_agenda.proofs.WriterSets.{filter-and, or-false}
 de_morgan : (b c : Bool) → not (b || c) ≡ (not b && not c)
 de_morgan b c = grind arith
 
-and-swap : (b c : Bool) → (b && c) ≡ (c && b)
-and-swap b c = grind arith
-
-and-same : (b : Bool) → (b && b) ≡ b
-and-same b = grind arith
-
 others_if-filter : (h : ℕ → Bool) (b : Bool) (whos xs : List ℕ) → filter (λ x. not (h x || (b && is_among x whos))) xs ≡ others_if b whos (filter (λ x. not (h x)) xs)
 others_if-filter h true whos xs = filter_agree _ (λ x. not (h x) && not (is_among x whos)) (λ x. de_morgan (h x) (is_among x whos)) xs ∙ filter-and (λ x. not (h x)) (λ x. not (is_among x whos)) xs
 others_if-filter h false whos xs = filter_agree _ (λ x. not (h x)) (λ x. ap not (or-false (h x))) xs
 
 filter-others_if : (b : Bool) (whos : List ℕ) (q : ℕ → Bool) (xs : List ℕ) → filter q (others_if b whos xs) ≡ others_if b whos (filter q xs)
 filter-others_if true whos q xs = sym (filter-and (λ x. not (is_among x whos)) q xs)
-    ∙ filter_agree _ (λ x. q x && not (is_among x whos)) (λ x. and-swap (not (is_among x whos)) (q x)) xs ∙ filter-and q (λ x. not (is_among x whos)) xs
+    ∙ filter_agree _ (λ x. q x && not (is_among x whos)) (λ x. and_comm (not (is_among x whos)) (q x)) xs ∙ filter-and q (λ x. not (is_among x whos)) xs
 filter-others_if false whos q xs = refl
 
 others_if-twice : (b c : Bool) (whos xs : List ℕ) → others_if b whos (others_if c whos xs) ≡ others_if (b || c) whos xs
 others_if-twice true true whos xs = sym (filter-and (λ x. not (is_among x whos)) (λ x. not (is_among x whos)) xs)
-    ∙ filter_agree _ (λ x. not (is_among x whos)) (λ x. and-same (not (is_among x whos))) xs
+    ∙ filter_agree _ (λ x. not (is_among x whos)) (λ x. and_self (not (is_among x whos))) xs
 others_if-twice true false whos xs = refl
 others_if-twice false c whos xs = refl
-
-pub others_if-nil : (b : Bool) (whos : List ℕ) → others_if b whos [] ≡ []
-others_if-nil b whos = grind arith
 
 pub unasked_if-nil : (b : Bool) (whos : List ℕ) → unasked_if b whos [] ≡ []
 unasked_if-nil b whos = grind arith
@@ -136,21 +127,12 @@ abbrev AreApart : List Place → Type 0
 AreApart [] = Unit {0}
 AreApart (p ∷ ps) = IsApartFrom p ps × AreApart ps
 
-places-apart : (k : Kind) → AreApart (places k)
-places-apart k = grind arith
-
-same_place-self : (p : Place) → same_place p p ≡ true
-same_place-self p = grind (arith, nat_tests)
-
 -- ## the groups left
 
 -- the place is that of the open group, if there is one
 abbrev IsOpen : Place → List Open → Type 0
 IsOpen p [] = Unit {0}
 IsOpen p (o ∷ os) = p ≡ o.place
-
-open_place-open : (os : List Open) → IsOpen (open_place os) os
-open_place-open os = grind arith
 
 later-add : (a b : Agenda) (p : Place) (whos : List ℕ) (f : Bool) → Adds a b p whos f → (ps : List Place) → IsApartFrom p ps
     → left_from b ps ≡ unasked_if (is_orders p.group && f) whos (left_from a ps)
@@ -162,7 +144,7 @@ step-add : (a b : Agenda) (p : Place) (whos : List ℕ) (f : Bool) → Adds a b 
     → (IsOpen p (left_from a qs) → left_from b qs ≡ advance whos f (left_from a qs))
     → IsOpen p (with_group q xs (left_from a qs))
     → with_group q (others_if (takes p f q) whos xs) (left_from b qs) ≡ advance whos f (with_group q xs (left_from a qs))
-step-add a b p whos f h q qs d xs later first = grind (arith, others_if-nil, same_place-self, later-add)
+step-add a b p whos f h q qs d xs later first = grind (arith, nat_tests, later-add)
 
 left_from-add : (a b : Agenda) (p : Place) (whos : List ℕ) (f : Bool) → Adds a b p whos f → (qs : List Place) → AreApart qs → IsOpen p (left_from a qs)
     → left_from b qs ≡ advance whos f (left_from a qs)
@@ -172,14 +154,14 @@ left_from-add a b p whos f h (q ∷ qs) d first =
     ∙ step-add a b p whos f h q qs d.0 (waited_for a q) (λ z. left_from-add a b p whos f h qs d.1 z) first
 
 left-add : (a b : Agenda) (p : Place) (whos : List ℕ) (f : Bool) → Adds a b p whos f → IsOpen p (groups_left a) → groups_left b ≡ advance whos f (groups_left a)
-left-add a b p whos f h first = ap (λ k. left_from b (places k)) h.kind ∙ left_from-add a b p whos f h (places a.kind) (places-apart a.kind) first
+left-add a b p whos f h first = ap (λ k. left_from b (places k)) h.kind ∙ left_from-add a b p whos f h (places a.kind) (grind arith) first
 
 -- what any members say in the open group, all of them the same
 pub groups_left-all_say : (said : Said) (now : ℕ) (whos : List ℕ) (a : Agenda) → groups_left (all_say said now whos a) ≡ advance whos (not (is_ok said)) (groups_left a)
 unfolding says_at
 groups_left-all_say said now whos a =
     left-add a (says_at (open_place (groups_left a)) said now whos a) (open_place (groups_left a)) whos (not (is_ok said))
-    (adds-says_at (open_place (groups_left a)) said now whos a) (open_place-open (groups_left a))
+    (adds-says_at (open_place (groups_left a)) said now whos a) (grind arith)
 
 -- ## a group that is left waits for somebody
 
@@ -190,9 +172,6 @@ pub left_from-waits : (a : Agenda) (ps : List Place) (o : Open) (os : List Open)
 left_from-waits a [] o os e = cc
 left_from-waits a (p ∷ ps) o os e = waits-from p (waited_for a p) (left_from a ps) os o (λ f. left_from-waits a ps o os f) e
 
-waits-at : (a : Agenda) (os : List Open) → groups_left a ≡ os → is_asking os ≡ true → is_nil (waits_now os) ≡ false
-waits-at a os e h = search (rules, left_from-waits)
-
 -- an open group of writers waits for somebody
 pub groups_left-waits : (a : Agenda) → is_asking (groups_left a) ≡ true → is_nil (waits_now (groups_left a)) ≡ false
-groups_left-waits a h = waits-at a (groups_left a) refl h
+groups_left-waits a h = search (rules, left_from-waits)

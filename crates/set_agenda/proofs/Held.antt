@@ -1,31 +1,26 @@
 -- Which volumes are held, of the groups left, of the log, and of the cursor.
 use Rattle.std.proofs.Common.{◌≡◌, ℕ, zero, suc, List, [], ◌∷◌, Some, refl, Bool, true, false, ap, sym, ◌∙◌, arith, drop, filter, map, rules}
-use Rattle.std.specs.Prelude.{◌&&◌, ◌||◌, not, ◌==◌, if◌then◌else◌}
+use Rattle.std.specs.Prelude.{◌&&◌, ◌||◌, not, ◌==◌}
 use Rattle.std.specs.List.{list_any}
 use Rattle.std.proofs.lemmas.Bool.{and_parts, eqb-true}
 use Rattle.std.proofs.lemmas.Grind.{common_steps}
 use Rattle.writer_state.specs.declared.said.Said.{Said}
-use Rattle.set_agenda.specs.declared.group.Group.{Group}
 use Rattle.set_agenda.specs.declared.group.Group.TheVariants.{Hold, Release}
 use Rattle.set_agenda.specs.declared.kind.Kind.{Kind}
 use Rattle.set_agenda.specs.declared.kind.Kind.TheVariants.{Gather, Prepare, Snapshot, Complete}
 use Rattle.set_agenda.specs.declared.place.Place.{Place}
 use Rattle.set_agenda.specs.declared.rows.Rows.{Rows}
 use Rattle.set_agenda.specs.declared.cursor.Cursor.{Cursor}
-use Rattle.set_agenda.specs.Agenda.{Agenda, Entry, HoldsOwn, Open, all_say, at_place, group_code, groups_left, has_said, head_or_0, is_among, is_asked}
-use Rattle.set_agenda.specs.Agenda.{is_held, is_held_now, is_snapshot, is_waited_at, is_working}
+use Rattle.set_agenda.specs.Agenda.{Agenda, Entry, HoldsOwn, Open, all_say, at_place, groups_left, has_said, is_among, is_asked}
+use Rattle.set_agenda.specs.Agenda.{is_held, is_held_now, is_waited_at, is_working}
 use Rattle.set_agenda.specs.Agenda.{left_from, next_member, open_place, places, plain, same_place, waited_for, waits_now, with_group}
-use Rattle.set_agenda.specs.WriterSet.{is_nil}
 use Rattle.set_agenda.proofs.GroupsLeft.{any-among, any-append, any-map, left_from-waits}
 use Rattle.set_agenda.specs.Cursor.{first_place, fresh, here, is_held_in, left_fresh, left_here, left_of}
 
 -- ## who is waited for at a place
 
-none_among : (b : Bool) (x : Bool) → ((b && false) || x) ≡ x
-none_among b x = grind arith
-
 waited-group : (p q : Place) (v : ℕ) (ws : List ℕ) (os : List Open) → is_waited_at p v (with_group q ws os) ≡ ((same_place q p && is_among v ws) || is_waited_at p v os)
-waited-group p q v ws os = grind (arith, none_among)
+waited-group p q v ws os = grind (arith)
 
 waited-from : (p : Place) (v : ℕ) (a : Agenda) (qs : List Place) → is_waited_at p v (left_from a qs) ≡ list_any (λ q. same_place q p && is_among v (waited_for a q)) qs
 waited-from p v a [] = refl
@@ -44,15 +39,6 @@ waited-here p v r vs c qs = grind (arith, waited-group, waited-fresh)
 
 -- ## by the cursor
 
-neither : (b : Bool) → ((b || false) && not (b || false)) ≡ false
-neither b = grind arith
-
-only : (b : Bool) → ((b || false) && true) ≡ b
-only b = grind arith
-
-less : (b d : Bool) → ((b || false) && not (d || false)) ≡ (b && not d)
-less b d = grind arith
-
 drop_none : (n : ℕ) → drop {A = Place} n [] ≡ []
 drop_none n = grind arith
 
@@ -60,32 +46,29 @@ drop_none n = grind arith
 abbrev held_from : Rows → List ℕ → Cursor → ℕ → List Place → Bool
 held_from r vs c v qs = any_here (plain Release) v r vs c qs && not (any_here (plain Hold) v r vs c qs)
 
-over : (r : Rows) (vs : List ℕ) (c : Cursor) (v : ℕ) (qs : List Place) → qs ≡ [] → held_from r vs c v qs ≡ is_held_in (first_place qs) c.next vs v
-over r vs c v qs e = grind arith
-
 held-places : (k : Kind) (n : ℕ) (r : Rows) (vs : List ℕ) (c : Cursor) (v : ℕ) → held_from r vs c v (drop n (places k)) ≡ is_held_in (first_place (drop n (places k))) c.next vs v
 held-places Gather zero r vs c v = refl
-held-places Gather (suc n) r vs c v = over r vs c v (drop n []) (drop_none n)
+held-places Gather (suc n) r vs c v = grind (arith, drop_none n)
 held-places Prepare zero r vs c v = refl
-held-places Prepare (suc n) r vs c v = over r vs c v (drop n []) (drop_none n)
+held-places Prepare (suc n) r vs c v = grind (arith, drop_none n)
 held-places Complete zero r vs c v = refl
-held-places Complete (suc n) r vs c v = over r vs c v (drop n []) (drop_none n)
-held-places Snapshot zero r vs c v = neither (is_among v vs)
-held-places Snapshot (suc zero) r vs c v = neither (is_among v vs)
-held-places Snapshot (suc (suc zero)) r vs c v = neither (is_among v vs)
-held-places Snapshot (suc (suc (suc zero))) r vs c v = neither (is_among v vs)
-held-places Snapshot (suc (suc (suc (suc zero)))) r vs c v = neither (is_among v vs)
-held-places Snapshot (suc (suc (suc (suc (suc zero))))) r vs c v = neither (is_among v vs)
-held-places Snapshot (suc (suc (suc (suc (suc (suc zero)))))) r vs c v = less (is_among v vs) (is_among v (drop c.next vs))
-held-places Snapshot (suc (suc (suc (suc (suc (suc (suc zero))))))) r vs c v = only (is_among v vs)
-held-places Snapshot (suc (suc (suc (suc (suc (suc (suc (suc zero)))))))) r vs c v = only (is_among v vs)
-held-places Snapshot (suc (suc (suc (suc (suc (suc (suc (suc (suc zero))))))))) r vs c v = only (is_among v (drop c.next vs))
+held-places Complete (suc n) r vs c v = grind (arith, drop_none n)
+held-places Snapshot zero r vs c v = grind arith
+held-places Snapshot (suc zero) r vs c v = grind arith
+held-places Snapshot (suc (suc zero)) r vs c v = grind arith
+held-places Snapshot (suc (suc (suc zero))) r vs c v = grind arith
+held-places Snapshot (suc (suc (suc (suc zero)))) r vs c v = grind arith
+held-places Snapshot (suc (suc (suc (suc (suc zero))))) r vs c v = grind arith
+held-places Snapshot (suc (suc (suc (suc (suc (suc zero)))))) r vs c v = grind arith
+held-places Snapshot (suc (suc (suc (suc (suc (suc (suc zero))))))) r vs c v = grind arith
+held-places Snapshot (suc (suc (suc (suc (suc (suc (suc (suc zero)))))))) r vs c v = grind arith
+held-places Snapshot (suc (suc (suc (suc (suc (suc (suc (suc (suc zero))))))))) r vs c v = grind arith
 held-places Snapshot (suc (suc (suc (suc (suc (suc (suc (suc (suc (suc zero)))))))))) r vs c v = refl
 held-places Snapshot (suc (suc (suc (suc (suc (suc (suc (suc (suc (suc (suc zero))))))))))) r vs c v = refl
 held-places Snapshot (suc (suc (suc (suc (suc (suc (suc (suc (suc (suc (suc (suc zero)))))))))))) r vs c v = refl
 held-places Snapshot (suc (suc (suc (suc (suc (suc (suc (suc (suc (suc (suc (suc (suc zero))))))))))))) r vs c v = refl
 held-places Snapshot (suc (suc (suc (suc (suc (suc (suc (suc (suc (suc (suc (suc (suc (suc zero)))))))))))))) r vs c v = refl
-held-places Snapshot (suc (suc (suc (suc (suc (suc (suc (suc (suc (suc (suc (suc (suc (suc (suc n))))))))))))))) r vs c v = over r vs c v (drop n []) (drop_none n)
+held-places Snapshot (suc (suc (suc (suc (suc (suc (suc (suc (suc (suc (suc (suc (suc (suc (suc n))))))))))))))) r vs c v = grind (arith, drop_none n)
 
 -- the cursor's place tells which volumes are held
 pub held_cursor : (k : Kind) (r : Rows) (vs : List ℕ) (c : Cursor) (v : ℕ) → is_held_now (left_of k r vs c) v ≡ is_held_in (first_place (drop c.group (places k))) c.next vs v
@@ -93,35 +76,18 @@ held_cursor k r vs c v = grind (arith, waited-here, held-places)
 
 -- ## by the log
 
-filtered-if : (b c r s q : Bool) → r ≡ (s && q) → (c ≡ true → q ≡ b) → (if b then (c || r) else r) ≡ ((c || s) && q)
-filtered-if b c r s q e f = grind arith
-
 among-filtered : (p : ℕ → Bool) (v : ℕ) (xs : List ℕ) → is_among v (filter p xs) ≡ (is_among v xs && p v)
 among-filtered p v [] = refl
-among-filtered p v (x ∷ xs) = grind (arith, common_steps, filtered-if, eqb-true, among-filtered p v xs)
-
-by_parts : (m h r : Bool) → (h ≡ true → m ≡ true) → (((m && not r) || false) && not ((m && not h) || false)) ≡ (h && not r)
-by_parts m h r e = grind arith
-
--- of these places
-abbrev any_of : Place → ℕ → Agenda → List Place → Bool
-any_of p v a qs = list_any (λ q. same_place q p && is_among v (waited_for a q)) qs
-
-held-said : (a : Agenda) (v : ℕ) (k : Kind) → HoldsOwn a → (any_of (plain Release) v a (places k) && not (any_of (plain Hold) v a (places k)))
-    ≡ (is_snapshot k && has_said a.log (plain Hold) v && not (has_said a.log (plain Release) v))
-held-said a v k own = grind (arith, among-filtered, by_parts)
+among-filtered p v (x ∷ xs) = grind (arith, common_steps, eqb-true, among-filtered p v xs)
 
 -- the groups left tell which volumes are held
 pub held-log : (a : Agenda) (v : ℕ) → HoldsOwn a → is_held_now (groups_left a) v ≡ is_held (Some a) v
-held-log a v own = grind (arith, waited-from, held-said)
+held-log a v own = grind (arith, waited-from, among-filtered)
 
 -- ## the agenda's own volumes are held
 
-hold_group : (g : Group) → (group_code g == group_code Hold) ≡ true → g ≡ Hold
-hold_group g e = grind arith
-
 waits-own : (a : Agenda) (v : ℕ) (p : Place) → same_place p (plain Hold) ≡ true → is_among v (waited_for a p) ≡ true → is_among v a.volumes ≡ true
-waits-own a v p at e = grind (arith, hold_group, and_parts, among-filtered)
+waits-own a v p at e = grind (arith, and_parts, among-filtered)
 
 left-own : (a : Agenda) (v : ℕ) (ps : List Place) → is_among v (waits_now (left_from a ps)) ≡ true → same_place (open_place (left_from a ps)) (plain Hold) ≡ true → is_among v a.volumes ≡ true
 left-own a v [] e at = cc
@@ -150,9 +116,6 @@ own-said said now whos a waited own v e =
 pub asked-waited : (w : ℕ) (os : List Open) → is_asked w os ≡ true → is_among w (waits_now os) ≡ true
 asked-waited w os e = grind arith
 
-head-among : (xs : List ℕ) → is_nil xs ≡ false → is_among (head_or_0 xs) xs ≡ true
-head-among xs e = grind arith
-
 -- the next member is waited for
 pub next-waited : (a : Agenda) → is_working (groups_left a) ≡ true → is_among (next_member (groups_left a)) (waits_now (groups_left a)) ≡ true
-next-waited a e = search (rules, head-among, left_from-waits)
+next-waited a e = search (rules, left_from-waits)

@@ -1,5 +1,5 @@
 -- Sets of writers as bits and as ascending lists.
-use Rattle.std.proofs.Common.{◌≡◌, ◌≢◌, ℕ, zero, suc, ◌+◌, ◌-◌, ◌*◌, ◌%◌, ◌/◌, ◌^◌, ◌<◌, ◌≤◌, min, max, List, [], ◌∷◌, refl, Bool, true, false, cond, ap, sym}
+use Rattle.std.proofs.Common.{◌≡◌, ◌≢◌, ℕ, zero, suc, ◌+◌, ◌-◌, ◌*◌, ◌%◌, ◌/◌, ◌^◌, ◌<◌, ◌≤◌, List, [], ◌∷◌, refl, Bool, true, false, cond, ap, sym}
 use Rattle.std.proofs.Common.{◌∙◌, filter, arith, bit_and, bit_or, w64, nat_eq}
 use Rattle.std.specs.Prelude.{◌&&◌, ◌||◌, not, ◌==◌}
 use Rattle.std.specs.List.{range_with_len}
@@ -8,6 +8,7 @@ use Rattle.std.proofs.lemmas.Bool.Decides.{nat_tests}
 use Rattle.std.proofs.lemmas.Nat.Bits.{shr_and_one, bit_at-lt, bit_at-zero, same_from_bits_below, bit_at_set_same, bit_at_set_other, bit_at_and, bit_at_not, bit_at_or}
 use Rattle.std.proofs.lemmas.Bool.{and_right}
 use Rattle.std.proofs.lemmas.Grind.{common_steps}
+use Rattle.std.proofs.Math.Bool.{or-true}
 use Rattle.set_agenda.specs.Agenda.{is_among}
 use Rattle.set_agenda.specs.Advance.{others}
 use Rattle.set_agenda.specs.WriterSet.{has_bit, is_nil, writers, writers_of}
@@ -22,9 +23,6 @@ and-false b = grind arith
 
 pub and-true : (b : Bool) → (b && true) ≡ b
 and-true b = grind arith
-
-same_from : (a w : ℕ) → (a == w) ≡ true → a ≡ w
-same_from a w e = grind (arith, nat_tests)
 
 other_from : (a w : ℕ) → (a == w) ≡ false → a ≢ w
 other_from a w e = grind (arith, nat_tests)
@@ -46,12 +44,9 @@ pub filter-none : {X : Type 0} (xs : List X) → filter (λ x. false) xs ≡ []
 filter-none [] = refl
 filter-none (x ∷ xs) = filter-none xs
 
-among-cond : (b : Bool) (x w : ℕ) (ys : List ℕ) → is_among w (cond b (x ∷ ys) ys) ≡ ((b && (x == w)) || is_among w ys)
-among-cond b x w ys = grind arith
-
 among-below : (p : ℕ → Bool) (a n w : ℕ) → w < a → is_among w (filter p (range_with_len a n)) ≡ false
 among-below p a zero w h = refl
-among-below p a (suc n) w h = grind (arith, common_steps, among-cond, and_right, among-below p (a + 1) n w (omega arith))
+among-below p a (suc n) w h = grind (arith, common_steps, and_right, among-below p (a + 1) n w (omega arith))
 
 among-step : (p : ℕ → Bool) (a w : ℕ) (d c : Bool) → (a == w) ≡ c → ((a == w) ≡ true → d ≡ false) → ((a == w) ≡ false → d ≡ p w) → ((p a && c) || d) ≡ p w
 among-step p a w d c e f g = grind arith
@@ -59,7 +54,7 @@ among-step p a w d c e f g = grind arith
 -- a number of a range is among those that pass where it passes
 among-filter : (p : ℕ → Bool) (a n w : ℕ) → a ≤ w → w < a + n → is_among w (filter p (range_with_len a n)) ≡ p w
 among-filter p a zero w h l = absurd (omega arith)
-among-filter p a (suc n) w h l = grind (arith, common_steps, among-cond, among-step, among-below, same_from, other_from, among-filter p (a + 1) n w)
+among-filter p a (suc n) w h l = grind (arith, common_steps, among-step, among-below, nat_tests, other_from, among-filter p (a + 1) n w)
 
 -- nobody of a range above w is w
 filter-above : (a n w : ℕ) → w < a → filter (λ i. w == i) (range_with_len a n) ≡ []
@@ -68,7 +63,7 @@ filter-above a (suc n) w h = let e : (w == a) ≡ false = grind (arith, nat_test
 
 one-step : (a n w : ℕ) (c : Bool) → (w == a) ≡ c → w < a + suc n → ((w == a) ≡ false → filter (λ i. w == i) (range_with_len (a + 1) n) ≡ w ∷ [])
     → cond c (a ∷ filter (λ i. w == i) (range_with_len (a + 1) n)) (filter (λ i. w == i) (range_with_len (a + 1) n)) ≡ w ∷ []
-one-step a n w c e h f = grind (arith, same_from, filter-above)
+one-step a n w c e h f = grind (arith, nat_tests, filter-above)
 
 filter-one : (a n w : ℕ) → a ≤ w → w < a + n → filter (λ i. w == i) (range_with_len a n) ≡ w ∷ []
 filter-one a zero w h l = absurd (omega arith)
@@ -115,39 +110,26 @@ pub same_bits : (a b : ℕ) → a < 2 ^ 64 → b < 2 ^ 64 → writers_of a ≡ w
 same_bits a b h k e = same_from_bits_below 64 a b h k (λ i l.
     digit-at (bit_at a i) (bit_at b i) (bit_at-lt a i) (bit_at-lt b i) (sym (among-writers (has_bit a) i l) ∙ ap (is_among i) e ∙ among-writers (has_bit b) i l))
 
-empty-at : (bits : ℕ) (xs : List ℕ) → bits < 2 ^ 64 → writers_of bits ≡ xs → nat_eq bits 0 ≡ is_nil xs
-empty-at bits xs h e = grind (arith, none-set, new-is)
-
 pub empty_is : (bits : ℕ) → bits < 2 ^ 64 → nat_eq bits 0 ≡ is_nil (writers_of bits)
-empty_is bits h = empty-at bits (writers_of bits) h refl
-
-or_true : (b : Bool) → (b || true) ≡ true
-or_true b = grind arith
+empty_is bits h = grind (arith, none-set, new-is)
 
 set-at : (bits w i : ℕ) (c : Bool) → w < 64 → (w == i) ≡ c → has_bit (bit_or bits (1 * 2 ^ w % 18446744073709551616)) i ≡ (has_bit bits i || c)
-set-at bits w i true h e = grind (arith, common_steps, same_from w i e, bit_at_set_same w64 bits w h, or_true (has_bit bits w))
+set-at bits w i true h e = grind (arith, common_steps, nat_tests, bit_at_set_same w64 bits w h, or-true (has_bit bits w))
 set-at bits w i false h e = ap (λ b. b == 1) (bit_at_set_other w64 bits w h i (λ s. other_from w i e (sym s))) ∙ sym (or-false (has_bit bits i))
 
 -- the bit of w put in
 pub insert_is : (bits w : ℕ) → w < 64 → writers_of (bit_or bits (1 * 2 ^ w % 18446744073709551616)) ≡ writers (λ i. is_among i (writers_of bits) || (w == i))
 insert_is bits w h = grind (arith, writers-agree, set-at, among-writers)
 
-minus_bit : (x y : ℕ) → x < 2 → y < 2 → (min x (1 - y) == 1) ≡ ((x == 1) && not (y == 1))
-minus_bit x y a b = grind arith
-
 minus-at : (a b i : ℕ) → b < 2 ^ 64 → i < 64 → has_bit (bit_and a (18446744073709551615 - b)) i ≡ (has_bit a i && not (is_among i (writers_of b)))
 minus-at a b i l h =
-    let fact = minus_bit (bit_at a i) (bit_at b i) (bit_at-lt a i) (bit_at-lt b i) in
     grind (arith, common_steps, bit_at_and a (18446744073709551615 - b) i, bit_at_not w64 b i l h, bit_at-lt a i, bit_at-lt b i, among-writers (has_bit b) i h)
 
 pub minus_is : (a b : ℕ) → b < 2 ^ 64 → writers_of (bit_and a (18446744073709551615 - b)) ≡ others (writers_of b) (writers_of a)
 minus_is a b l = writers-agree _ (λ i. has_bit a i && not (is_among i (writers_of b))) (λ i h. minus-at a b i l h) ∙ sym (others-writers (writers_of b) (has_bit a))
 
-or_bit : (x y : ℕ) → x < 2 → y < 2 → (max x y == 1) ≡ ((x == 1) || (y == 1))
-or_bit x y a b = grind arith
-
 either-at : (a b i : ℕ) → i < 64 → has_bit (bit_or a b) i ≡ (is_among i (writers_of a) || is_among i (writers_of b))
-either-at a b i h = grind (arith, bit_at_or, or_bit, bit_at-lt, among-writers)
+either-at a b i h = grind (arith, bit_at_or, bit_at-lt, among-writers)
 
 pub with_is : (a b : ℕ) → writers_of (bit_or a b) ≡ writers (λ w. is_among w (writers_of a) || is_among w (writers_of b))
 with_is a b = writers-agree _ (λ w. is_among w (writers_of a) || is_among w (writers_of b)) (λ i h. either-at a b i h)

@@ -17,8 +17,7 @@ use Rattle.vss_names.specs.declared.set_outcome.SetOutcome.TheVariants.{Running,
 use Rattle.writer_state.specs.declared.said.Said.{Said}
 use Rattle.writer_state.specs.declared.said.Said.TheVariants.{Ok, Veto, Lost}
 use Rattle.writer_state.specs.declared.writer_row.WriterRow.{WriterRow}
-use Rattle.writer_state.specs.WriterState.{is_failed, is_ok}
-use Rattle.writer_state.specs.WriterRow.{row_after, row_aborted, row_gathered, row_ended}
+use Rattle.writer_state.specs.WriterState.{is_failed, is_ok, row_after, row_aborted, row_gathered, row_ended}
 use Rattle.set_agenda.specs.declared.kind.Kind.{Kind}
 use Rattle.set_agenda.specs.declared.kind.Kind.TheVariants.{Gather, Prepare, Snapshot, Complete}
 use Rattle.set_agenda.specs.declared.limit.Limit.{Limit}

@@ -14,7 +14,7 @@ use Rattle.set_agenda.specs.declared.member.Member.{Member}
 use Rattle.set_agenda.specs.declared.rows.Rows.{Rows}
 use Rattle.set_agenda.specs.declared.cursor.Cursor.{Cursor}
 use Rattle.set_agenda.specs.Agenda.{Open, with_group, is_among, is_at, is_orders, is_over_volumes, places}
-use Rattle.set_agenda.specs.Begin.{are_distinct}
+use Rattle.set_agenda.specs.Advance.{are_distinct}
 use Rattle.set_agenda.specs.WriterSet.{is_nil, writers}
 
 -- ## rows

@@ -2,6 +2,5 @@ pub mod Agenda
 pub mod Limits
 pub mod Course
 pub mod Advance
-pub mod Begin
 pub mod WriterSet
 pub mod Cursor

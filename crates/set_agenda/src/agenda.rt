@@ -1,7 +1,6 @@
 ghost use Rattle.std.specs.Prelude.{◌≡◌, ℕ, ◌<◌, ◌∷◌, [], All, IfOk, List, map, true, false};
 ghost use Rattle.set_agenda.specs.Agenda.{Open, groups_left, is_asked, is_asking, is_done, is_held_now, is_working, next_member, next_step, next_volume, open_group, open_level, open_place, waits_now};
-ghost use Rattle.set_agenda.specs.Advance.{advance};
-ghost use Rattle.set_agenda.specs.Begin.{are_distinct, by_writer, unspoken};
+ghost use Rattle.set_agenda.specs.Advance.{advance, are_distinct, by_writer, unspoken};
 ghost use Rattle.set_agenda.specs.Cursor.{IsSound, left_of};
 
 use crate::cursor::Cursor;

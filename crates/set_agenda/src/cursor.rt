@@ -41,7 +41,7 @@ impl Cursor {
     }
 
     /// Goes to the next group that asks somebody, where the open one waits for nobody any more.
-    #[tactic(auto, using(crate::proofs::Cursors::here_skip))]
+    #[tactic(auto, using(crate::proofs::Closings::here_skip))]
     pub fn go_on(&mut self, kind: Kind, rows: &Rows, volumes: &[u32])
         requires { self.old.group ≤ 16 }
         ensures at_most { self.new.group ≤ 16 }
@@ -55,7 +55,7 @@ impl Cursor {
         }
     }
 
-    #[tactic(auto, using(crate::proofs::Cursors::closed_steps))]
+    #[tactic(auto, using(crate::proofs::Closings::closed_steps))]
     fn is_closed(&self, volumes: &[u32], place: Place) -> bool
         ensures { result ≡ is_nil (here volumes.now self.now place) }
     {
@@ -103,7 +103,7 @@ fn is_empty_group(rows: &Rows, volumes: &[u32], place: Place) -> bool
 }
 
 /// The number of the first group that asks somebody, from that number on.
-#[tactic(auto, using(crate::proofs::Cursors::fresh_skip))]
+#[tactic(auto, using(crate::proofs::Closings::fresh_skip))]
 fn first_open(kind: Kind, rows: &Rows, volumes: &[u32], from: usize) -> usize
     requires { from ≤ 16 }
     ensures at_most { result ≤ 16 }

@@ -1,5 +1,5 @@
 ghost use Rattle.std.specs.Prelude.{◌≡◌};
-ghost use Rattle.set_agenda.specs.Begin.{are_distinct};
+ghost use Rattle.set_agenda.specs.Advance.{are_distinct};
 
 /// Whether none of the numbers comes twice, as the members and the volumes of an agenda have to be.
 pub fn are_distinct(numbers: &[u32]) -> bool

@@ -55,7 +55,7 @@ impl Rows {
         self.enter_level(member);
     }
 
-    #[tactic(auto, using(crate::proofs::Beginnings::row_in, crate::proofs::Beginnings::row_out))]
+    #[tactic(auto, using(crate::proofs::Closings::row_in, crate::proofs::Closings::row_out))]
     fn enter_level(&mut self, member: Member)
         requires { member.writer < 64 }
         ensures levels { (ms : List Member) → HasLevels self.old ms → HasLevels self.new (ms ++ member ∷ []) }

@@ -4,8 +4,7 @@ use Rattle.std.proofs.lemmas.Bool.{cases_eq, cases_lt}
 use Rattle.std.proofs.lemmas.List.{length-set, get_or-set_same, get_or-set_other}
 use Rattle.std.proofs.lemmas.List.Sums.{sum_by-cons, sum_by-set, count_by-le-length}
 use Rattle.std.proofs.lemmas.Option.{slice_get-get_or, get_or_from_slice_get, slice_get_within}
-use Rattle.slot_pool.specs.Slots.{IsTaken, IsLowestFree, free_count}
-use Rattle.slot_pool.specs.Runs.{free_at, AllTakenBelow, IsFirst, MayBeFree, KeepsPool}
+use Rattle.slot_pool.specs.Slots.{IsTaken, IsLowestFree, free_count, free_at, AllTakenBelow, IsFirst, MayBeFree, KeepsPool}
 
 abbrev one_if : Bool → ℕ
 one_if is_free = cond is_free 1 0

@@ -1,6 +1,5 @@
 ghost use Rattle.std.specs.Prelude.{◌≡◌, ◌+◌, ◌<◌, ◌≤◌, List, Bool, true, false, length, replicate, slice_set, IsTrue, IfOk, IfSome, IfNone, IsNone, ◌↔◌};
-ghost use Rattle.slot_pool.specs.Slots.{IsTaken, IsLowestFree, free_count};
-ghost use Rattle.slot_pool.specs.Runs.{IsFirst, AllTakenBelow, MayBeFree};
+ghost use Rattle.slot_pool.specs.Slots.{IsTaken, IsLowestFree, free_count, IsFirst, AllTakenBelow, MayBeFree};
 
 use std::alloc::Global;
 use std::marker::Model;
@@ -27,7 +26,7 @@ pub struct SlotPool {
 
 impl Model for SlotPool {
     ghost use Rattle.std.specs.Prelude.{List, Bool};
-    ghost use Rattle.slot_pool.specs.Runs.{KeepsPool};
+    ghost use Rattle.slot_pool.specs.Slots.{KeepsPool};
 
     ghost Value = { List Bool };
 

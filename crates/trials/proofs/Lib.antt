@@ -1,1 +1,2 @@
+mod OneProvider
 pub mod Few

@@ -1,10 +1,10 @@
 -- What a trial knows of the devices in memory that it makes. (This project's own.)
 use Rattle.std.specs.Prelude.{ℕ, ◌≡◌, Some, length, replicate}
-use Rattle.block_data.specs.Runs.{zeros}
+use Rattle.block_data.specs.BlockBytes.{zeros}
 use Rattle.volume_device.specs.InMemory.{blocks_of}
 use Rattle.volume_device.specs.declared.mem_device.MemDevice.{MemDevice}
 use Rattle.write_history.specs.History.{fresh}
-use Rattle.cow_volume.specs.GroupValue.{GroupValue}
+use Rattle.cow_volume.specs.StandsFor.{GroupValue}
 use Rattle.cow_volume.specs.OneVolume.{StandsForOne}
 
 -- how many blocks a device has

@@ -1,6 +1,6 @@
 //! Documents that are read, refused and written.
 
-ghost use Rattle.writer_meta.specs.Allowed.{IsAllowed};
+ghost use Rattle.writer_meta.specs.Document.{IsAllowed};
 ghost use Rattle.writer_meta.specs.Metadata.{meta_of};
 
 use crate::page::Page;

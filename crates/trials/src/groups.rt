@@ -1,5 +1,5 @@
 ghost use Rattle.std.specs.Prelude.{All, IfOk, IfSome};
-ghost use Rattle.diff_map.specs.MapValue.{AreImages};
+ghost use Rattle.diff_map.specs.Copies.{AreImages};
 
 use crate::call::Call;
 use crate::page::Page;

@@ -1,5 +1,10 @@
-//! Trials of the crates below the service: the program makes the call that each line of its standard input names, and writes what it answered,
-//! a line for each answer. `trials SUBJECT` begins with a subject, `trials` with single calls. Lines of each:
+//! Trials of single crates, and of the service in threads.
+//!
+//!     trials SUBJECT                    makes the call that each line of the standard input names, and writes what it answered
+//!     trials                            likewise, from single calls on; and then the rows of what runs in threads
+//!     trials WORDS.. [-- FAILING..]     calls the service with other words, those that `vss` takes: `src/in_threads/mod.rt` has more
+//!
+//! It is a program for the checks, and promises nothing of its own. Lines of each subject:
 //!
 //!     # ..                       is passed over, as an empty line is
 //!     subject SUBJECT            another subject: `calls`, `cow`, `mirror`, `recover` or `shards`
@@ -59,6 +64,7 @@ mod documents;
 mod generating;
 mod grouped;
 mod groups;
+mod in_threads;
 mod lists;
 mod machines;
 mod making;
@@ -75,6 +81,7 @@ mod streams;
 mod trial;
 mod writing;
 
+use in_threads::{call_service, make_rows};
 use page::Page;
 use std::env;
 use std::process::ExitCode;
@@ -82,14 +89,6 @@ use std::sync::Wait;
 use std::thread::Threads;
 use stopped::{Done, Stopped};
 use trial::{Subject, Trial};
-
-/// The subject that the words of the program name.
-fn subject_given(rt: &HostRuntime) -> Result<Subject, Stopped> {
-    match env::args(rt)?.nth(1) {
-        Some(word) => Subject::of(word.as_str()).ok_or(Stopped),
-        None => Ok(Subject::Calls),
-    }
-}
 
 /// Takes all lines of a text in order.
 fn take_lines<R: Threads + Wait + Sync>(
@@ -105,8 +104,12 @@ fn take_lines<R: Threads + Wait + Sync>(
 }
 
 /// Takes all lines of the standard input.
-fn take_input<R: Threads + Wait + Sync>(rt: &HostRuntime, handle: &R, page: &mut Page) -> Done {
-    let subject = subject_given(rt)?;
+fn take_input<R: Threads + Wait + Sync>(
+    rt: &HostRuntime,
+    handle: &R,
+    page: &mut Page,
+    subject: Subject,
+) -> Done {
     let input = Page::input(rt)?;
     let Ok(text) = str::from_utf8(input.bytes()) else {
         return Err(Stopped);
@@ -115,8 +118,29 @@ fn take_input<R: Threads + Wait + Sync>(rt: &HostRuntime, handle: &R, page: &mut
     take_lines(handle, page, &mut trial, text)
 }
 
-fn main(rt: HostRuntime) -> ExitCode {
+/// Takes all lines, and writes what they made.
+fn make_lines<R: Threads + Wait + Sync>(rt: &HostRuntime, handle: &R, subject: Subject) -> Done {
     let mut page = Page::new(rt.alloc());
-    let made = take_input(&rt, &rt, &mut page);
-    page.end(&rt, made)
+    let made = take_input(rt, handle, &mut page, subject);
+    page.end(rt, made)
+}
+
+/// Makes what the words ask for.
+fn make<R: Threads + Wait + Sync>(rt: &HostRuntime, handle: &R) -> Result<ExitCode, Stopped> {
+    let Some(word) = env::args(rt)?.nth(1) else {
+        make_lines(rt, handle, Subject::Calls)?;
+        return Ok(make_rows(rt, handle));
+    };
+    let Some(subject) = Subject::of(word.as_str()) else {
+        return Ok(call_service(rt, handle));
+    };
+    make_lines(rt, handle, subject)?;
+    Ok(ExitCode::SUCCESS)
+}
+
+fn main(rt: HostRuntime) -> ExitCode {
+    match make(&rt, &rt) {
+        Ok(status) => status,
+        Err(Stopped) => ExitCode::from(70),
+    }
 }

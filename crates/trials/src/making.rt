@@ -1,9 +1,9 @@
 //! What volumes are made of: devices of zeros in memory, and areas of free slots.
 
 ghost use Rattle.std.specs.Prelude.{◌≡◌, ◌<◌, ◌≤◌, All, IfOk, IsTrue, length, map, replicate};
-ghost use Rattle.block_data.specs.Runs.{zeros};
+ghost use Rattle.block_data.specs.BlockBytes.{zeros};
 ghost use Rattle.write_history.specs.History.{fresh};
-ghost use Rattle.diff_area.specs.Records.{AreVolumes, free};
+ghost use Rattle.diff_area.specs.Format.{AreVolumes, free};
 ghost use Rattle.volume_device.specs.InMemory.{blocks_of};
 ghost use Rattle.cow_volume.specs.OneVolume.{StandsForOne, blocks_of as volume_blocks};
 ghost use Rattle.trials.specs.Devices.{IsZeroed, size_of};

@@ -2,7 +2,6 @@ use crate::stopped::{Done, Stopped};
 use io_edge::{InSource, OutSink, read_all, write_all};
 use std::alloc::Global;
 use std::fmt::{Debug, Display};
-use std::process::ExitCode;
 use vss_names::Text;
 
 /// The most bytes that are read.
@@ -87,11 +86,11 @@ impl Page {
     }
 
     /// Writes the page to the standard output, and says whether all calls were made and each has its line.
-    pub fn end(&self, rt: &HostRuntime, made: Done) -> ExitCode {
+    pub fn end(&self, rt: &HostRuntime, made: Done) -> Done {
         let written = write_all(&mut OutSink::new(rt.stdout()), self.text.bytes());
         if written.is_ok() && made.is_ok() && self.is_whole {
-            return ExitCode::SUCCESS;
+            return Ok(());
         }
-        ExitCode::from(70)
+        Err(Stopped)
     }
 }

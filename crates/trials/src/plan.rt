@@ -1,3 +1,4 @@
+use crate::in_threads::TrialError;
 use crate::stopped::{Done, Stopped};
 use std::alloc::Global;
 use volume_device::Planned;
@@ -14,7 +15,7 @@ pub struct Plan {
 }
 
 /// The numbers of `1,4-7`.
-fn numbers_of(alloc: Global, text: &str) -> Result<Numbers, Stopped> {
+pub fn numbers_of(alloc: Global, text: &str) -> Result<Numbers, TrialError> {
     let mut numbers = Vec::new(alloc);
     for range in text.split(',') {
         let (first, last) = range.split_once('-').unwrap_or((range, range));
@@ -26,7 +27,7 @@ fn numbers_of(alloc: Global, text: &str) -> Result<Numbers, Stopped> {
 }
 
 /// A row of a plan by which no call fails.
-pub fn unfailing(alloc: Global, name: &str) -> Result<Planned, Stopped> {
+pub fn unfailing(alloc: Global, name: &str) -> Result<Planned, TrialError> {
     Ok(Planned {
         name: Text::copy(alloc, name.as_bytes())?,
         refused: false,
@@ -91,6 +92,6 @@ impl Plan {
                 return Ok(self.rows.swap_remove(place));
             }
         }
-        unfailing(self.alloc, name)
+        Ok(unfailing(self.alloc, name)?)
     }
 }

@@ -1,10 +1,9 @@
 //! Components that are named, refused and chosen, and their documents.
 
 ghost use Rattle.std.specs.Prelude.{◌≡◌, length, IfOk, IsTrue};
-ghost use Rattle.writer_meta.specs.Allowed.{IsAllowed};
+ghost use Rattle.writer_meta.specs.Document.{IsAllowed};
 ghost use Rattle.writer_meta.specs.Metadata.{meta_of};
-ghost use Rattle.component_doc.specs.Held.{metas_of, all_have_few, is_named};
-ghost use Rattle.component_doc.specs.Over.{AreAllowed, IsOver};
+ghost use Rattle.component_doc.specs.Over.{metas_of, all_have_few, is_named, AreAllowed, IsOver};
 
 use crate::page::Page;
 use crate::stopped::{Done, Stopped};

@@ -1,3 +1,4 @@
+use crate::in_threads::TrialError;
 use std::alloc::{AllocError, AllocFailed};
 use std::io;
 use std::num::ParseIntError;
@@ -42,6 +43,12 @@ impl From<Failed> for Stopped {
 
 impl From<ParseIntError> for Stopped {
     fn from(_: ParseIntError) -> Stopped {
+        Stopped
+    }
+}
+
+impl From<TrialError> for Stopped {
+    fn from(_: TrialError) -> Stopped {
         Stopped
     }
 }

@@ -2,4 +2,3 @@ pub mod Callers
 pub mod History
 pub mod Rule
 pub mod Steps
-pub mod TurnEnd

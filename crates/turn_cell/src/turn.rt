@@ -27,8 +27,7 @@ pub struct Turn<M: Machine> {
 }
 
 impl<M: Machine> Turn<M> {
-    ghost use Rattle.turn_cell.specs.History.{entries_of, entry_of, GoesOnTo};
-    ghost use Rattle.turn_cell.specs.TurnEnd.{Ended};
+    ghost use Rattle.turn_cell.specs.History.{entries_of, entry_of, GoesOnTo, Ended};
     ghost use Rattle.turn_cell.specs.Callers.{standing, number, seen, mine, Calls, IsSame, AreNew, opening, seats};
     ghost use Rattle.turn_cell.specs.Callers as Callers;
 

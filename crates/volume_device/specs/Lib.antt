@@ -1,7 +1,3 @@
-pub mod Blocks
 pub mod InMemory
-pub mod Made
 pub mod Messages
 pub mod OnHost
-pub mod Plans
-pub mod Stores

@@ -2,7 +2,7 @@
 
 ghost use Rattle.std.specs.Prelude.{◌≡◌, ◌<◌, ℕ, Bool, true, List, length, Option, Some, is_some, slice_get, slice_set, OnOk, OnErr, IfSome, option_map};
 ghost use Rattle.vss_names.specs.Faults.{HasCause};
-ghost use Rattle.volume_device.specs.Blocks.{AreBlocks};
+ghost use Rattle.volume_device.specs.InMemory.{AreBlocks};
 
 use block_data::BLOCK;
 use vss_names::Failed;

@@ -1,7 +1,7 @@
 ghost use Rattle.std.specs.Prelude.{◌≡◌, ◌≤◌, None, IfOk, OnOk, IsErrOf};
 ghost use Rattle.vss_names.specs.Faults.{Rose};
 ghost use Rattle.volume_device.specs.OnHost.{host_maker_faults, devices_out};
-ghost use Rattle.volume_device.specs.Stores.{is_memory};
+ghost use Rattle.volume_device.specs.Messages.{is_memory};
 
 use crate::device::Device;
 use crate::file_device::FileDevice;

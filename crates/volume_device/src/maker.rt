@@ -2,7 +2,7 @@
 
 ghost use Rattle.std.specs.Prelude.{◌≡◌, ◌<◌, ◌≤◌, ◌+◌, ◌-◌, ◌++◌, ◌∷◌, [], ℕ, Bool, List, Option, IsSome, IsTrue, OnOk, OnErr, IfOk, IsErrOf, IfSome, option_map, replicate};
 ghost use Rattle.vss_names.specs.Faults.{Rose, counted};
-ghost use Rattle.block_data.specs.Runs.{zeros};
+ghost use Rattle.block_data.specs.BlockBytes.{zeros};
 ghost use Rattle.volume_device.specs.declared.store.Store.{Store};
 
 use crate::device::Device;

@@ -1,5 +1,5 @@
 ghost use Rattle.std.specs.Prelude.{◌≡◌, ◌<◌, ◌^◌, ℕ, Bool, List, length, Option, Some, All, IfOk, replicate};
-ghost use Rattle.block_data.specs.Runs.{zeros};
+ghost use Rattle.block_data.specs.BlockBytes.{zeros};
 ghost use Rattle.vss_names.specs.Faults.{HasCause};
 ghost use Rattle.block_data.specs.declared.block_buf.TheConstants.{BLOCK};
 
@@ -38,7 +38,7 @@ fn zero_blocks(alloc: Global, count: u32) -> Result<Vec<BlockBuf>, OutOfMemory>
 
 impl MemDevice {
     ghost use Rattle.volume_device.specs.InMemory.{IsNew, blocks_of, reads_of, writes_of, flushes_of, faults_of, is_dirty};
-    ghost use Rattle.vss_names.specs.Schedules.{failing_at};
+    ghost use Rattle.vss_names.specs.Faults.{failing_at};
 
     /// A device of so many zero blocks, none of whose calls fails.
     pub fn new(alloc: Global, blocks: u32) -> Result<MemDevice, OutOfMemory>

@@ -24,7 +24,7 @@ pub struct MemMaker {
 }
 
 impl MemMaker {
-    ghost use Rattle.volume_device.specs.Made.{plan_of, names_of, returned_of, places_of, maker_faults_of};
+    ghost use Rattle.volume_device.specs.InMemory.{plan_of, names_of, returned_of, places_of, maker_faults_of};
 
     /// A maker with this plan, which has got no device back.
     pub fn new(alloc: Global, plan: Vec<Planned>) -> MemMaker
@@ -59,8 +59,7 @@ impl MemMaker {
 }
 
 impl Maker for MemMaker {
-    ghost use Rattle.volume_device.specs.InMemory.{faults_of};
-    ghost use Rattle.volume_device.specs.Made.{plan_of, names_of, returned_of, places_of, maker_faults_of, IsMakeOf};
+    ghost use Rattle.volume_device.specs.InMemory.{faults_of, plan_of, names_of, returned_of, places_of, maker_faults_of, IsMakeOf};
 
     type Made = MemDevice;
 

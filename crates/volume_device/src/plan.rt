@@ -1,5 +1,5 @@
 ghost use Rattle.std.specs.Prelude.{◌≡◌, ◌<◌, length, IfSome};
-ghost use Rattle.volume_device.specs.Plans.{place_for, row_for, used_up, is_refused};
+ghost use Rattle.volume_device.specs.InMemory.{place_for, row_for, used_up, is_refused};
 
 use crate::planned::Planned;
 use std::marker::Model;

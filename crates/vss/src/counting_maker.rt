@@ -1,6 +1,6 @@
 ghost use Rattle.std.specs.Prelude.{◌≡◌, None};
 ghost use Rattle.volume_device.specs.OnHost.{host_maker_faults, devices_out};
-ghost use Rattle.volume_device.specs.Stores.{is_memory};
+ghost use Rattle.volume_device.specs.Messages.{is_memory};
 
 use crate::counted_device::CountedDevice;
 use crate::progress::Progress;

@@ -5,18 +5,16 @@ use Rattle.std.specs.List.{flat_map}
 use Rattle.std.specs.Str.{bytes_eq}
 use Rattle.std.proofs.lemmas.Bool.Decides.{nat_tests}
 use Rattle.std.proofs.lemmas.List.{append_assoc, take-append-drop, length-take-le, drop-drop}
-use Rattle.block_data.specs.Digest.{sha256}
-use Rattle.vss_catalog.specs.Allowed.{AreRising, IsEntry, AreEntries, IsCatalog, AreBytes}
-use Rattle.vss_catalog.specs.Entries.{EntryValue}
+use Rattle.block_data.specs.BlockBytes.{sha256}
+use Rattle.vss_catalog.specs.Entries.{AreRising, IsEntry, AreEntries, IsCatalog, AreBytes, EntryValue}
 use Rattle.vss_names.specs.Names.{is_name}
 use Rattle.vss_catalog.specs.Reading.{◌>>=◌, number_in, name_of_length, name_in, blocks_in, count_in, set_in, sets_in, entry_in, end_in, entries_in}
 use Rattle.vss_catalog.specs.Reading.{letters_in, volumes_in, body_in, front_of, is_sealed, catalog_in}
 use Rattle.vss_catalog.specs.Written.{number_bytes, entry_bytes, size_of, body_of, bytes_of}
 use Rattle.vss_catalog.specs.declared.catalog_fault.CatalogFault.{CatalogFault}
 use Rattle.vss_catalog.specs.declared.catalog_fault.CatalogFault.TheVariants.{Digest, Magic, Short, Order}
-use Rattle.vss_catalog.proofs.Numbers.{number-again, bytes-past, bytes-in}
-use Rattle.vss_catalog.proofs.Steps.{passed, if_true, is_at_most, is_below, is_not_below}
-use Rattle.diff_area.proofs.Valid.{and_left, and_right}
+use Rattle.vss_catalog.proofs.Steps.{number-again, bytes-past, bytes-in, passed, if_true, is_at_most, is_below, is_not_below}
+use Rattle.diff_area.proofs.GoodRecords.{and_left, and_right}
 
 -- a test that has to be passed, before a second
 first_if : {A : Type 0} (b : Bool) (r : Result A CatalogFault) (y : A) (f : CatalogFault) → (if b then r else Err f) ≡ Ok y → (b ≡ true) × (r ≡ Ok y)

@@ -6,17 +6,13 @@ use Rattle.std.proofs.lemmas.Bool.Decides.{nat_tests}
 use Rattle.std.proofs.lemmas.List.{append_assoc, length-append, drop_at, take_at, drop-drop}
 use Rattle.std.proofs.lemmas.Bool.{and_from}
 use Rattle.sha2.proofs.Facts256.{length-sha256}
-use Rattle.block_data.specs.Digest.{sha256}
-use Rattle.vss_catalog.specs.Allowed.{AreRising, IsEntry, AreEntries, IsCatalog}
-use Rattle.vss_catalog.specs.Entries.{EntryValue}
-use Rattle.vss_names.specs.TextValue.{TextValue}
-use Rattle.vss_names.specs.Names.{is_name}
-use Rattle.vss_catalog.specs.Names.{are_names, bytes_in}
+use Rattle.block_data.specs.BlockBytes.{sha256}
+use Rattle.vss_catalog.specs.Entries.{AreRising, IsEntry, AreEntries, IsCatalog, EntryValue, are_names, bytes_in}
+use Rattle.vss_names.specs.Names.{TextValue, is_name}
 use Rattle.vss_catalog.specs.Reading.{◌>>=◌, name_of_length, name_in, blocks_in, count_in, set_in, sets_in, entry_in, entries_in, letters_in, volumes_in, body_in, front_of, is_sealed, catalog_in}
 use Rattle.vss_catalog.specs.Written.{number_bytes, entry_bytes, size_of, body_of, bytes_of}
-use Rattle.vss_catalog.proofs.Numbers.{length-number_bytes, number-back, past-number}
-use Rattle.vss_catalog.proofs.Steps.{then, passes, fails, at_most, is_at_most, below, not_below}
-use Rattle.diff_area.proofs.Valid.{and_left, and_right}
+use Rattle.vss_catalog.proofs.Steps.{length-number_bytes, number-back, past-number, then, passes, fails, at_most, is_at_most, below, not_below}
+use Rattle.diff_area.proofs.GoodRecords.{and_left, and_right}
 
 -- ## names
 

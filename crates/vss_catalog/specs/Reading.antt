@@ -1,13 +1,15 @@
 -- What bytes say as a catalog, or why they are none. The digest comes first. Then the fields are read forwards: a field that is
 -- cut off is told at its first byte, and else the first field that is not of the format; last, bytes that are left. `at` is
 -- the place of the bytes `rest` among all. (This project's own format.)
-use Rattle.std.specs.Prelude.{◌≡◌, ℕ, zero, suc, ◌+◌, ◌-◌, Bool, List, [], ◌∷◌, length, take, drop, codes, nat_le, nat_lt, nat_eq, ◌&&◌, if◌then◌else◌, is_ok, Result, Ok, Err}
+use Rattle.std.specs.Fmt.{decimal}
 use Rattle.std.specs.List.{starts_with}
+use Rattle.std.specs.Prelude.{◌≡◌, ℕ, zero, suc, ◌+◌, ◌-◌, Bool, List, [], ◌∷◌, length, take, drop, codes, nat_le, nat_lt, nat_eq, ◌&&◌, if◌then◌else◌, is_ok}
+use Rattle.std.specs.Prelude.{Result, Ok, Err, ◌++◌}
 use Rattle.std.specs.Str.{bytes_eq}
 use Rattle.byteorder.specs.Endian.{little_number}
-use Rattle.block_data.specs.Digest.{sha256}
-use Rattle.vss_catalog.specs.Entries.{EntryValue}
 use Rattle.vss_names.specs.Names.{is_name}
+use Rattle.block_data.specs.BlockBytes.{sha256}
+use Rattle.vss_catalog.specs.Entries.{EntryValue}
 use Rattle.vss_catalog.specs.Written.{size_of}
 use Rattle.vss_catalog.specs.declared.catalog_fault.CatalogFault.{CatalogFault}
 use Rattle.vss_catalog.specs.declared.catalog_fault.CatalogFault.TheVariants.{Digest, Magic, Volumes, Short, Name, Blocks, Images, Order, Rest, OutOfMemory}
@@ -115,3 +117,17 @@ is_sealed bytes = nat_le 32 (length bytes) && bytes_eq (sha256 (front_of bytes))
 
 unfoldable pub catalog_in : List ℕ → Result (List EntryValue) CatalogFault
 catalog_in bytes = if is_sealed bytes then body_in (front_of bytes) else Err Digest
+
+-- ## What is said of bytes that are no catalog. (This project's own.)
+
+abbrev pub message_of : CatalogFault → List ℕ
+message_of Digest = codes "the digest is another"
+message_of Magic = codes "no catalog"
+message_of (Volumes found) = decimal found ++ codes " volumes"
+message_of (Short at) = codes "cut off at byte " ++ decimal at
+message_of (Name volume) = codes "volume " ++ decimal volume ++ codes " has no name"
+message_of (Blocks volume found) = codes "volume " ++ decimal volume ++ codes " has " ++ decimal found ++ codes " blocks"
+message_of (Images volume found) = codes "volume " ++ decimal volume ++ codes " has " ++ decimal found ++ codes " images"
+message_of (Order volume at) = codes "volume " ++ decimal volume ++ codes " at " ++ decimal at ++ codes " falls"
+message_of (Rest at) = codes "more bytes at byte " ++ decimal at
+message_of OutOfMemory = codes "out of memory"

@@ -3,7 +3,7 @@
 use Rattle.std.specs.Prelude.{ℕ, ◌+◌, ◌*◌, List, ◌++◌, length, codes}
 use Rattle.std.specs.List.{flat_map}
 use Rattle.byteorder.specs.Endian.{little_bytes}
-use Rattle.block_data.specs.Digest.{sha256}
+use Rattle.block_data.specs.BlockBytes.{sha256}
 use Rattle.vss_catalog.specs.Entries.{EntryValue}
 
 unfoldable pub number_bytes : ℕ → List ℕ

@@ -1,10 +1,8 @@
 ghost use Rattle.std.specs.Prelude.{◌≡◌, ◌<◌, ◌≤◌, ◌++◌, ◌∷◌, [], ◌==◌, ◌&&◌, length, slice_get, slice_set, Some, Ok, IfOk, IfErr, IsErrOf, IsTrue, List, All, OnErr, OnOk};
 ghost use Rattle.std.specs.List.{remove};
-ghost use Rattle.diff_area.specs.Records.{AreVolumes};
-ghost use Rattle.diff_map.specs.MapValue.{AreImages};
-ghost use Rattle.vss_catalog.specs.Allowed.{IsCatalog};
-ghost use Rattle.vss_catalog.specs.Entries.{EntryValue, lists_of};
-ghost use Rattle.vss_catalog.specs.Group.{are_names_for, entries_of};
+ghost use Rattle.diff_area.specs.Format.{AreVolumes};
+ghost use Rattle.diff_map.specs.Copies.{AreImages};
+ghost use Rattle.vss_catalog.specs.Entries.{IsCatalog, EntryValue, lists_of, are_names_for, entries_of};
 ghost use Rattle.vss_catalog.specs.Reading.{catalog_in, front_of, is_headed, is_sealed, Tells};
 ghost use Rattle.vss_catalog.specs.Written.{bytes_of};
 
@@ -111,7 +109,7 @@ impl Catalog {
     }
 
     /// Copies of the lists of the images, one for each volume, as `CowGroup::resume` takes them.
-    #[tactic(auto, using(crate::proofs::ResumedLists::catalog_lists))]
+    #[tactic(auto, using(crate::proofs::Groups::catalog_lists))]
     pub fn lists(&self, alloc: Global) -> Result<Vec<Numbers>, OutOfMemory>
         ensures lists { IfOk result (λ lists. lists.items ≡ lists_of self.now) }
         ensures rise { IsCatalog self.now → IfOk result (λ lists. All AreImages lists.items) }

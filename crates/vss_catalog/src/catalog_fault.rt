@@ -1,5 +1,5 @@
 ghost use Rattle.std.specs.Prelude.{Some};
-ghost use Rattle.vss_catalog.specs.Messages.{message_of};
+ghost use Rattle.vss_catalog.specs.Reading.{message_of};
 
 use std::alloc::{AllocError, AllocFailed};
 use std::error::Error;

@@ -1,9 +1,7 @@
 //! What holds of every catalog: functions that do nothing, whose contracts are the laws.
 
 ghost use Rattle.std.specs.Prelude.{◌≡◌, ℕ, List, Ok, IsTrue};
-ghost use Rattle.vss_catalog.specs.Allowed.{IsCatalog, AreBytes};
-ghost use Rattle.vss_catalog.specs.Entries.{EntryValue, lists_of};
-ghost use Rattle.vss_catalog.specs.Group.{are_names_for, entries_of};
+ghost use Rattle.vss_catalog.specs.Entries.{IsCatalog, AreBytes, EntryValue, lists_of, are_names_for, entries_of};
 ghost use Rattle.vss_catalog.specs.Reading.{catalog_in};
 ghost use Rattle.vss_catalog.specs.Written.{bytes_of};
 

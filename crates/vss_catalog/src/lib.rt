@@ -2,7 +2,7 @@
 //! that are kept beside the devices and the area of a group that was closed.
 //!
 //! Contracts see a `Catalog` as a list of entries, one for each volume in order. `specs/Written.antt` has the bytes of a catalog,
-//! `specs/Reading.antt` what bytes say as a catalog or why they are none, and `specs/Allowed.antt` the conditions on entries.
+//! `specs/Reading.antt` what bytes say as a catalog or why they are none, and `specs/Entries.antt` the conditions on entries.
 //!
 //! The contracts promise that `encode` writes just those bytes; that `decode` answers just what the bytes say, with the first
 //! refusal in the order of the format; and, as laws, that what is written is read back, and that bytes which are read are those

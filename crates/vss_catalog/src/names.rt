@@ -1,5 +1,5 @@
 ghost use Rattle.std.specs.Prelude.{◌≡◌, ◌<◌, ◌≤◌, length, slice_get, Some, IsTrue};
-ghost use Rattle.vss_catalog.specs.Names.{are_names, bytes_in};
+ghost use Rattle.vss_catalog.specs.Entries.{are_names, bytes_in};
 
 use vss_names::{MOST_NAME, Text, is_name};
 

@@ -8,10 +8,9 @@ use Rattle.vss_main.specs.declared.inspection.Inspection.{Inspection}
 use Rattle.vss_main.specs.declared.inspection.Inspection.TheVariants as ended
 use Rattle.scenario.specs.Grammar.{reading_of, IsScenario}
 use Rattle.scenario.specs.Plan.{Plan}
-use Rattle.vss_main.specs.Words.{Asked}
+use Rattle.vss_main.specs.Command.{Asked, most_bytes, most_bytes_for, most_for_task}
 use Rattle.vss_main.specs.declared.task.Task.{Task}
 use Rattle.vss_main.specs.declared.task.Task.TheVariants.{Run, Generate, Inspect}
-use Rattle.vss_main.specs.Command.{most_bytes, most_bytes_for, most_for_task}
 use Rattle.vss_main.specs.Inspected.{status_of}
 use Rattle.vss_main.specs.Tasks.{IsTask, IsTaskWhereItCan, IsAnswer, IsAnsweredWhereItCan}
 use Rattle.vss_main.specs.Outside.{Around}

@@ -11,7 +11,7 @@ use Rattle.clap.specs.Lexer.{strip_byte, long_of_rest, long_of, short_of_rest, s
 use Rattle.clap.specs.Walk.{Rule, Text, Held, Step, Walk, trailing, first_of, word_met, idle, value, after_step, walked, walk_from, nothing_held, finished, long_or_other, short_or_plain}
 use Rattle.clap.specs.Simple.{App, Shape, matches_of, is_simple, new_app, new_rule, with_rule, on_top, built, entered}
 use Rattle.clap.specs.Takes.{takes, bundle_passes, turn_passes, word_passes, step_passes, walk_passes, flag_word_passes, settle_passes, default_passes, is_valid, entered_passes}
-use Rattle.vss_main.specs.Words.{is_dashed, are_plain}
+use Rattle.vss_main.specs.Command.{is_dashed, are_plain}
 
 abbrev pub no_name : Shape → Shape
 no_name s = record s { no_binary_name = true }

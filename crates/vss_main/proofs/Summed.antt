@@ -5,7 +5,7 @@ use Rattle.std.specs.List.{concat, range_with_len, list_any}
 use Rattle.std.proofs.lemmas.List.Sums.{sum_by-cons}
 use Rattle.std.proofs.lemmas.Option.{slice_get_past, slice_get_within}
 use Rattle.vss_names.specs.Faults.{Rose, most}
-use Rattle.block_data.specs.Digest.{sha256}
+use Rattle.block_data.specs.BlockBytes.{sha256}
 use Rattle.volume_device.specs.declared.device.Device.{Ghosts}
 use Rattle.write_history.specs.declared.move_item.Move.{Move}
 use Rattle.write_history.specs.History.{Write, contents}
@@ -16,22 +16,19 @@ use Rattle.scenario.specs.declared.refused.Refused.{Refused}
 use Rattle.scenario.specs.declared.refused.Refused.TheVariants.{Line}
 use Rattle.scenario.specs.Grammar.{reading_of, IsScenario, IsBad, IsRefusal}
 use Rattle.generated.specs.ScenarioText.{gen_text}
-use Rattle.generated.specs.Reading.{IsRead}
-use Rattle.generated.specs.Contents.{final_blocks}
-use Rattle.generated.specs.Summary.{summary_with, final_digest, final_digests}
-use Rattle.vss_model.specs.Told.{IsDigestIf}
+use Rattle.generated.specs.Scenario.{IsRead, Shape, shape_of, own_shape, IsGenerated}
+use Rattle.generated.specs.Contents.{final_blocks, summary_with, final_digest, final_digests}
+use Rattle.vss_model.specs.Outcome.{IsDigestIf}
 use Rattle.vss_model.specs.Trail.{is_fault, is_legal, is_complete, faults}
-use Rattle.vss_report.specs.ToldReport.{all_tell}
-use Rattle.vss_report.proofs.DigestBytes.{digest_if}
-use Rattle.generated.specs.Scenario.{Shape, shape_of, own_shape, IsGenerated}
+use Rattle.vss_report.specs.ToldLines.{all_tell}
+use Rattle.vss_report.proofs.Joined.{digest_if}
 use Rattle.generated.proofs.Ending.{ends_in_blocks, ends_well}
 use Rattle.vss_play.specs.declared.play_fault.PlayFault.{PlayFault}
 use Rattle.vss_play.specs.Acting.{IsPlayedInThreads}
-use Rattle.vss_play.specs.Closing.{history_after}
-use Rattle.vss_play.specs.Digested.{AreDigests, bytes_after}
+use Rattle.vss_play.specs.Closing.{history_after, AreDigests, bytes_after}
 use Rattle.vss_play.specs.Played.{Played, AreNamed, device_names, IsFresh, tells_in, AnyRose}
 use Rattle.vss_play.proofs.Histories.{played_to_the_end}
-use Rattle.vss_play.proofs.MakerCount.{rose-positive, rose-counted, member-le-sum}
+use Rattle.vss_play.proofs.FaultMarks.{rose-positive, rose-counted, member-le-sum}
 use Rattle.vss_main.specs.Outside.{AroundMaker}
 use Rattle.vss_main.specs.TopCall.{IsOwnTrail}
 use Rattle.vss_main.specs.Generated.{IsOfNumber, AreEight, IsSummed, IsDigested, IsDigestedTo}

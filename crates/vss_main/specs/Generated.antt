@@ -10,13 +10,12 @@ use Rattle.volume_device.specs.declared.device.Device.{Ghosts}
 use Rattle.scenario.specs.Plan.{Plan}
 use Rattle.scenario.specs.Grammar.{reading_of, IsScenario}
 use Rattle.generated.specs.ScenarioText.{gen_text}
-use Rattle.generated.specs.Summary.{summary, summary_with}
+use Rattle.generated.specs.Contents.{summary, summary_with, EndsWell}
 use Rattle.vss_model.specs.Trail.{faults}
 use Rattle.generated.specs.Scenario.{IsGenerated}
-use Rattle.generated.specs.EndsWell.{EndsWell}
 use Rattle.vss_play.specs.declared.play_fault.PlayFault.{PlayFault}
-use Rattle.vss_play.specs.Digested.{AreDigests}
-use Rattle.vss_play.specs.Lasting.{AreLeft}
+use Rattle.vss_play.specs.Closing.{AreDigests}
+use Rattle.vss_play.specs.Made.{AreLeft}
 use Rattle.vss_play.specs.Played.{Played, AnyRose, AreasHold, IsKept, IsQuietPlay, tells_in}
 use Rattle.vss_main.specs.Command.{IsStoreOf}
 use Rattle.vss_main.specs.Outside.{AroundMaker, SinkAndMaker, IsUnwritten}

@@ -2,7 +2,7 @@
 use Rattle.std.specs.Prelude.{ℕ, ◌≡◌, Bool, List, Option, Some, None}
 use Rattle.volume_device.specs.declared.store.Store.{Store}
 use Rattle.volume_device.specs.declared.device.Device.{Ghosts}
-use Rattle.vss_main.specs.Words.{Asked}
+use Rattle.vss_main.specs.Command.{Asked}
 use Rattle.vss_main.specs.declared.task.Task.{Task}
 use Rattle.vss_main.specs.declared.task.Task.TheVariants.{Run, Generate, Inspect}
 use Rattle.vss_main.specs.Generated.{IsGeneration, IsSummedWhereItCan}

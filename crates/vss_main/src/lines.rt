@@ -2,7 +2,7 @@
 
 ghost use Rattle.std.specs.Prelude.{◌≡◌, ◌+◌, ◌<◌, ◌≤◌, ◌++◌, length, OnOk};
 ghost use Rattle.diff_area.specs.Format.{number_at, layout_in, slots_in, volumes_in, header_of};
-ghost use Rattle.vss_main.specs.Listing.{head_of, volume_line, volume_lines, used_line, record_of, slot_line, slot_lines};
+ghost use Rattle.vss_main.specs.Inspected.{head_of, volume_line, volume_lines, used_line, record_of, slot_line, slot_lines};
 
 use crate::words::{add_digest, add_number};
 use byteorder::{ByteOrder, LittleEndian};

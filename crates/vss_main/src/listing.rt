@@ -1,9 +1,8 @@
 ghost use Rattle.std.specs.Prelude.{◌≡◌, ◌+◌, ◌≤◌, ◌++◌, length, IfOk, IfErr, OnOk, IsErrOf};
 ghost use Rattle.block_data.specs.declared.block_buf.TheConstants.{BLOCK};
-ghost use Rattle.diff_area.specs.Format.{stated_used, header_of, records_of, IsArea};
-ghost use Rattle.diff_area.specs.Records.{used_in};
+ghost use Rattle.diff_area.specs.Format.{stated_used, header_of, records_of, IsArea, used_in};
 ghost use Rattle.diff_area.specs.Refusals.{IsRefused};
-ghost use Rattle.vss_main.specs.Listing.{listing};
+ghost use Rattle.vss_main.specs.Inspected.{listing};
 
 use crate::lines::{add_head, add_slots, add_volumes, number_at};
 use block_data::BLOCK;
@@ -31,7 +30,7 @@ fn header_of(bytes: &[u8]) -> &[u8]
 }
 
 /// How many slots are used.
-#[tactic(auto, using(crate::proofs::Sound::has_header))]
+#[tactic(auto, using(crate::proofs::Listed::has_header))]
 fn used_in(bytes: &[u8]) -> u32
     requires { IsArea bytes.now }
     ensures { result ≡ used_in (records_of bytes.now) }
@@ -55,7 +54,7 @@ fn listing_of(alloc: Global, view: &AreaView<'_>, used: u32) -> Result<Text, Out
 
 /// The listing of the area that these bytes are, in either layout. Each block that is used is digested once, where it stands.
 /// Bytes that are no area have the first refusal of their format. Memory is taken for the listing, and as `AreaView::new` says.
-#[tactic(auto, using(crate::proofs::Sound::only_memory))]
+#[tactic(auto, using(crate::proofs::Listed::only_memory))]
 pub fn list_area(alloc: Global, bytes: &[u8]) -> Result<Text, AreaFault>
     ensures listed { IfOk result (λ text. text.bytes ≡ listing bytes.now) }
     ensures area { OnOk result (IsArea bytes.now) }

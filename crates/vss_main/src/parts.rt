@@ -2,7 +2,7 @@
 
 ghost use Rattle.std.specs.Prelude.{◌≡◌, true, codes, map, slice_get, option_map, string_bytes, IfOk, IfErr};
 ghost use Rattle.clap.specs.Words.{first_value, found_of, kind_of};
-ghost use Rattle.vss_main.specs.Words.{are_plain};
+ghost use Rattle.vss_main.specs.Command.{are_plain};
 
 use clap::error::ErrorKind;
 use clap::{Arg, ArgMatches, Command, Error};

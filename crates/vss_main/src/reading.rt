@@ -2,7 +2,7 @@
 
 ghost use Rattle.std.specs.Prelude.{◌≡◌, not, true, map, slice_get, string_bytes, option_map, is_some, IfOk, IfErr};
 ghost use Rattle.std.specs.List.{list_all};
-ghost use Rattle.vss_main.specs.Words.{shown, is_dashed, are_plain, folder_of, number_of, with_folder, run_with, generate_with, inspect_with, meant, command};
+ghost use Rattle.vss_main.specs.Command.{shown, is_dashed, are_plain, folder_of, number_of, with_folder, run_with, generate_with, inspect_with, meant, command};
 
 use crate::command::Command;
 use crate::parts::{Parts, parts_of};

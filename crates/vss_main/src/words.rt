@@ -3,7 +3,7 @@
 ghost use Rattle.std.specs.Prelude.{◌≡◌, ◌++◌, OnOk};
 ghost use Rattle.std.specs.Fmt.{decimal};
 ghost use Rattle.hex.specs.Hex.{encode_lower};
-ghost use Rattle.block_data.specs.Digest.{sha256};
+ghost use Rattle.block_data.specs.BlockBytes.{sha256};
 
 use block_data::digest;
 use itoa::Buffer;

@@ -1,12 +1,22 @@
 -- What one more move adds to the state, the acts, the legality and the faults of a trail.
-use Rattle.std.proofs.Common.{◌≡◌, ◌+◌, List, [], ◌∷◌, ◌++◌, refl, sym, ◌∙◌, fold, cond, arith}
+use Rattle.std.proofs.Common.{◌≡◌, ◌+◌, List, [], ◌∷◌, ◌++◌, refl, sym, subst, ◌∙◌, fold, cond, arith}
 use Rattle.std.specs.Prelude.{◌&&◌}
-use Rattle.vss_model.proofs.Terms.{append_assoc, append-nil, fold-append, sum_by-append, common_steps, Move, Plan, start, Act, after, state, Run, begin}
-use Rattle.vss_model.proofs.Terms.{event_of, acts_if, moved, run_from, run, acts_from, acts, is_legal_move, is_legal_from, is_legal, is_fault, faults}
+use Rattle.vss_model.proofs.Terms.{append_assoc, append-nil, fold-append, sum_by-append, common_steps, Move, Plan, State, start, Act, after, state, Run}
+use Rattle.vss_model.proofs.Terms.{begin, event_of, acts_if, moved, run_from, run, acts_from, acts, is_legal_move, is_legal_from, is_legal, is_fault, faults}
 use Rattle.set_agenda.proofs.WriterSets.{and-true}
 
 pub state-append : (s : Plan) (before : List Act) (act : Act) → state s (before ++ act ∷ []) ≡ after s (state s before) act
 state-append s before act = fold-append (after s) (start s) before (act ∷ [])
+
+-- what one more act keeps holds of every list of acts
+pub by_last : (P : List Act → Type 0) → ((past : List Act) (act : Act) → P past → P (past ++ act ∷ [])) → P [] → (acts : List Act) → P acts
+by_last P more none acts = from [] acts none where
+  from : (past rest : List Act) → P past → P (past ++ rest)
+  from past [] h = subst P (sym (append-nil past)) h
+  from past (act ∷ rest) h = subst P (append_assoc past (act ∷ []) rest) (from (past ++ act ∷ []) rest (more past act h))
+
+pub by_acts : (P : State → Type 0) (s : Plan) → ((past : List Act) (act : Act) → P (state s past) → P (after s (state s past) act)) → P (start s) → (acts : List Act) → P (state s acts)
+by_acts P s more none acts = by_last (λ past. P (state s past)) (λ past act h. subst P (sym (state-append s past act)) (more past act h)) none acts
 
 pub run-append : (s : Plan) (trail : List Move) (m : Move) → run s (trail ++ m ∷ []) ≡ moved s (run s trail) m
 run-append s trail m = fold-append (moved s) (begin s) trail (m ∷ [])

@@ -8,8 +8,7 @@ use Rattle.vss_model.proofs.Terms.{is_at, writers_at, waited_for, with_group, le
 use Rattle.vss_model.proofs.Terms.{SetRow, in_progress, left_now, is_held, is_frozen, Act, state, is_cut_group}
 use Rattle.set_agenda.specs.Agenda.{is_held as holds, is_frozen as freezes}
 use Rattle.vss_model.proofs.Orderly.{true_not_false}
-use Rattle.vss_model.proofs.HeldOfSet.{IsOf, Tied, tied}
-use Rattle.vss_model.proofs.CutLog.{undoes, is_refusal, is_undoing, is_cut_made, IsSound, SoundLog, sound}
+use Rattle.vss_model.proofs.HeldOfSet.{IsOf, Tied, tied, undoes, is_refusal, is_undoing, is_cut_made, IsSound, SoundLog, sound}
 
 -- ## what is closed at the cut
 

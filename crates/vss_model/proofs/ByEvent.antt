@@ -1,25 +1,61 @@
 -- The rule of events: what holds of each kind of act, each with what is known where it comes, holds of every act that is enabled.
-use Rattle.std.proofs.Common.{◌≡◌, ◌∙◌, ℕ, List, [], Option, Some, None, refl, Bool, true, false, sym, subst, arith}
-use Rattle.std.specs.Prelude.{map, is_some, ◌&&◌, not, if◌then◌else◌}
-use Rattle.vss_model.proofs.Terms.{nat_tests, common_steps, Context, VssResult, AsyncCancelled, Mark, Write, dropped, Answer, said_of, open_group, next_volume}
-use Rattle.vss_model.proofs.Terms.{is_asking, is_working, change_at, Fill, Stamp, payload_bytes, Pair, Names, naming, Mode, SessionCall, Verdict, Go, Refused}
-use Rattle.vss_model.proofs.Terms.{Session, context_of, opened, makes_set, check, check_begin, check_other, owner_only, verdict_of, goes_beside_agenda, Op}
-use Rattle.vss_model.proofs.Terms.{WriteFill, WriteStamp, Read, ImageDigest, ImageBlock, Query, Properties, Revert, DeleteSet, DeleteImage, Tick, Begin}
-use Rattle.vss_model.proofs.Terms.{Disable, Component, Document, Start, Add, Await, Status, Abort, End, begins_agenda, DeletesSet, DeletesImage, Calls}
-use Rattle.vss_model.proofs.Terms.{target_of, Plan, token, acts_as, Event, Line, Provider, Idle, Reply, Fine, Deleted, Idled, State, SetRow, Kept, in_progress}
-use Rattle.vss_model.proofs.Terms.{left_now, is_held, kept_image, is_kept_set, runs, is_in_set, revert_refusal, revert_reply, delete_image_reply, with_volume}
-use Rattle.vss_model.proofs.Terms.{known_metas, add_refusal, component_reply, fine_unless, add_reply, call_reply, judged_reply, line_ticks, Act}
-use Rattle.vss_model.proofs.Terms.{order_of_writer, is_free, line_enabled, enabled, idle_now, answer_reply, step_reply, reply, LetsGo, is_fine, is_numbered}
-use Rattle.vss_model.proofs.Terms.{is_pending_code, is_pending, leaves_all}
+use Rattle.std.proofs.Common.{◌≡◌, ℕ, Option, Some, Bool, true, false, arith, ◌∙◌, List, [], None, refl, sym, subst}
+use Rattle.std.specs.Prelude.{◌&&◌, not, length, map, is_some, if◌then◌else◌}
+use Rattle.requestor.specs.Check.{allows}
 use Rattle.requestor.specs.declared.session_call.SessionCall.TheVariants as call
-use Rattle.scenario.specs.declared.op.Op.TheVariants.{Gather, Prepare, Snapshot, Complete}
 use Rattle.scenario.specs.declared.line.Line.{Line as Does}
 use Rattle.scenario.specs.declared.line.Line.TheVariants.{Reverts}
+use Rattle.scenario.specs.declared.op.Op.TheVariants.{Gather, Prepare, Snapshot, Complete}
 use Rattle.scenario.specs.declared.span.Span.{Span}
-use Rattle.vss_model.specs.declared.event.Event.TheVariants.{Answer as AnswerEvent}
-use Rattle.vss_model.proofs.StateForm.{failed, Replied, write, reverted_as, image_block, image_blocks, properties, delete_set, delete_kept, delete_image, revert_to, revert, disable, gather, prepare, snapshot, complete, start_set, change_set, end_session, component_in, add, await_last, line_in, session_line, judged, answered, stepped, ticked, called, does, line, happens, add_to}
 use Rattle.vss_model.specs.Lines.{reply_to}
-use Rattle.vss_model.proofs.GoingOn.{Goes, other_goes}
+use Rattle.vss_model.specs.declared.event.Event.TheVariants.{Answer as AnswerEvent}
+use Rattle.vss_model.proofs.StateForm.{failed, Replied, write, reverted_as, image_block, image_blocks, properties, delete_set, delete_kept, delete_image}
+use Rattle.vss_model.proofs.StateForm.{revert_to, revert, disable, gather, pending, refused, complete, start_set, change_set, end_session, component_in, add}
+use Rattle.vss_model.proofs.StateForm.{await_last, line_in, session_line, judged, answered, stepped, ticked, called, does, line, happens, add_to}
+use Rattle.vss_model.proofs.Terms.{SessionCall, Verdict, Go, Session, makes_set, has_writers, verdict_of, owner_only, check_other, goes_beside_agenda, is_start}
+use Rattle.vss_model.proofs.Terms.{nat_tests, common_steps, Context, VssResult, AsyncCancelled, Mark, Write, dropped, Answer, said_of, open_group, next_volume}
+use Rattle.vss_model.proofs.Terms.{is_asking, is_working, change_at, Fill, Stamp, payload_bytes, Pair, Names, naming, Mode, Refused, context_of, opened, check}
+use Rattle.vss_model.proofs.Terms.{check_begin, Op, WriteFill, WriteStamp, Read, ImageDigest, ImageBlock, Query, Properties, Revert, DeleteSet, DeleteImage}
+use Rattle.vss_model.proofs.Terms.{Tick, Begin, Disable, Component, Document, Start, Add, Await, Status, Abort, End, begins_agenda, DeletesSet, DeletesImage}
+use Rattle.vss_model.proofs.Terms.{Calls, target_of, Plan, token, acts_as, Event, Line, Provider, Idle, Reply, Fine, Deleted, Idled, State, SetRow, Kept}
+use Rattle.vss_model.proofs.Terms.{in_progress, left_now, is_held, kept_image, is_kept_set, runs, is_in_set, revert_refusal, revert_reply, delete_image_reply}
+use Rattle.vss_model.proofs.Terms.{with_volume, known_metas, add_refusal, component_reply, fine_unless, add_reply, call_reply, judged_reply, line_ticks, Act}
+use Rattle.vss_model.proofs.Terms.{order_of_writer, is_free, line_enabled, enabled, idle_now, answer_reply, step_reply, reply, LetsGo, is_fine, is_numbered}
+use Rattle.vss_model.proofs.Terms.{is_pending_code, is_pending, leaves_all, BadState, Coded, Course, has_no_volume, volumes_of, selected, takers, prepared}
+use Rattle.vss_model.proofs.Terms.{snapshot_begun}
+
+-- ## What is known where the checks let a session call go.
+
+-- the call is the owner's; no agenda runs but for the calls that go beside one, and `start` makes the first set
+pub record Goes (session : Option Session) (running : Bool) (call : SessionCall) : Type 0 where
+  pub own : Session
+  pub is : session ≡ Some own
+  pub quiet : goes_beside_agenda call ≡ false → running ≡ false
+  pub free : is_start call ≡ true → makes_set own.stage ≡ false
+  pub allowed : allows own.stage (has_writers own.context) call ≡ true
+
+-- the four tests of a call that goes
+record GoTests (busy waits may later : Bool) : Type 0 where
+  free : busy ≡ false
+  quiet : waits ≡ false
+  allowed : may ≡ true
+
+go_tests : (a b c d : Bool) → verdict_of a b c d ≡ Go → GoTests a b c d
+go_tests a b c d e = grind arith
+
+owner_goes : (b : Bool) (v : Verdict) → owner_only b v ≡ Go → v ≡ Go
+owner_goes b v e = grind arith
+
+pub running_off : (running beside : Bool) → (running && not beside) ≡ false → beside ≡ false → running ≡ false
+running_off running beside e f = grind arith
+
+set_off : (starts makes : Bool) → (starts && makes) ≡ false → starts ≡ true → makes ≡ false
+set_off starts makes e f = grind arith
+
+pub other_goes : (q : Option Session) (running : Bool) (lane : ℕ) (call : SessionCall) → check_other q running lane call ≡ Go → Goes q running call
+other_goes q running lane call e = grind (arith, go_tests, owner_goes, running_off, set_off)
+
+-- ## The rule of events: what holds of each kind of act, each with what is known where it comes, holds of every act that is enabled.
 
 -- ## shorter steps of proofs by events
 
@@ -82,8 +118,10 @@ pub record Covers (P : Event → Mark → Replied → Type 0) (s : Plan) (st : S
   pub names : (lane w : ℕ) (full : Span) (q : Session) (explicit : List Pair) (mark : Mark) → LetsGo call.Component q st → naming (known_metas s st) w (token s full) st.explicit ≡ Names explicit → P (Line lane (Component w full)) mark (Fine, record st { explicit = explicit })
   pub starts : (lane : ℕ) (q : Session) (mark : Mark) → LetsGo call.Start q st → makes_set q.stage ≡ false → P (Line lane Start) mark (start_set q st)
   pub adds : (lane v : ℕ) (r : SetRow) (q : Session) (mark : Mark) → LetsGo call.Add q st → in_progress st ≡ Some r → add_refusal v r st ≡ None → P (Line lane (Add v)) mark (Fine, change_set r.number (with_volume v) st)
-  pub prepares : (lane : ℕ) (q : Session) (mark : Mark) → LetsGo call.Prepare q st → P (Line lane Prepare) mark (prepare s q st)
-  pub snapshots : (lane : ℕ) (q : Session) (mark : Mark) → LetsGo call.Snapshot q st → P (Line lane Snapshot) mark (snapshot st)
+  pub prepares : (lane : ℕ) (q : Session) (mark : Mark) → LetsGo call.Prepare q st → has_no_volume (in_progress st) ≡ false
+      → P (Line lane Prepare) mark (pending (prepared (takers (length s.writers) (selected s q st)) st.clock st.course) st)
+  pub snapshots : (lane : ℕ) (q : Session) (mark : Mark) → LetsGo call.Snapshot q st → has_no_volume (in_progress st) ≡ false
+      → P (Line lane Snapshot) mark (pending (snapshot_begun (volumes_of (in_progress st)) st.clock st.course) st)
   pub completes : (lane : ℕ) (q : Session) (mark : Mark) → LetsGo call.Complete q st → P (Line lane Complete) mark (complete st)
   pub aborts : (lane : ℕ) (q : Session) (mark : Mark) → st.session ≡ Some q → P (Line lane Abort) mark (Fine, failed AsyncCancelled st)
   pub ends : (lane : ℕ) (q : Session) (mark : Mark) → st.session ≡ Some q → P (Line lane End) mark (end_session q st)
@@ -154,6 +192,12 @@ module _ (P : Event → Mark → Replied → Type 0) (s : Plan) (st : State) (k 
   on_add : (lane v : ℕ) (o : Option SetRow) (q : Session) (mark : Mark) → LetsGo call.Add q st → in_progress st ≡ o → P (Line lane (Add v)) mark (add v o st)
   on_add lane v o q mark g e = grind arith
 
+  -- a call that wants a volume in the set
+  on_volumes : (lane : ℕ) (op : Op) (c : Course) (mark : Mark) (b : Bool) → line_ticks op ≡ None → (b ≡ false → P (Line lane op) mark (pending c st))
+      → P (Line lane op) mark (if b then refused BadState st else pending c st)
+  on_volumes lane op c mark true e goes = k.stays lane op mark (Coded BadState) e (record { agenda = λ f. refl; session = λ f. refl; set = λ f. refl; refused = λ f. refl })
+  on_volumes lane op c mark false e goes = goes refl
+
   on_await : (lane : ℕ) (last : Option VssResult) (mark : Mark) → P (Line lane Await) mark (await_last last st)
   on_await lane last mark = grind arith
 
@@ -199,8 +243,10 @@ module _ (P : Event → Mark → Replied → Type 0) (s : Plan) (st : State) (k 
   on_line lane Document mark e = on_owned call.Document lane Document mark refl refl (λ g. k.stays lane Document mark _ refl (other_line Document _ refl))
   on_line lane Start mark e = on_owned call.Start lane Start mark refl refl (λ g. k.starts lane g.own mark (quiet_of call.Start g refl) (g.free refl))
   on_line lane (Add v) mark e = on_owned call.Add lane (Add v) mark refl refl (λ g. on_add lane v (in_progress st) g.own mark (quiet_of call.Add g refl) refl)
-  on_line lane Prepare mark e = on_owned call.Prepare lane Prepare mark refl refl (λ g. k.prepares lane g.own mark (quiet_of call.Prepare g refl))
-  on_line lane Snapshot mark e = on_owned call.Snapshot lane Snapshot mark refl refl (λ g. k.snapshots lane g.own mark (quiet_of call.Snapshot g refl))
+  on_line lane Prepare mark e =
+      on_owned call.Prepare lane Prepare mark refl refl (λ g. on_volumes lane Prepare _ mark (has_no_volume (in_progress st)) refl (k.prepares lane g.own mark (quiet_of call.Prepare g refl)))
+  on_line lane Snapshot mark e =
+      on_owned call.Snapshot lane Snapshot mark refl refl (λ g. on_volumes lane Snapshot _ mark (has_no_volume (in_progress st)) refl (k.snapshots lane g.own mark (quiet_of call.Snapshot g refl)))
   on_line lane Await mark e = on_owned call.Await lane Await mark refl refl (λ g. on_await lane g.own.last mark)
   on_line lane Status mark e = on_owned call.Status lane Status mark refl refl (λ g. k.stays lane Status mark _ refl (other_line Status _ refl))
   on_line lane Complete mark e = on_owned call.Complete lane Complete mark refl refl (λ g. k.completes lane g.own mark (quiet_of call.Complete g refl))

@@ -28,7 +28,7 @@ use Rattle.vss_model.proofs.StateForm.{stepped_as, stepped, later, ticked, answe
 use Rattle.vss_model.proofs.StateForm.{line_without_session, named_as, session_line, step_made}
 use Rattle.vss_model.specs.Changes as change
 use Rattle.vss_model.specs.Changes.{Names}
-use Rattle.vss_model.proofs.ByEvent.{Covers, Next, covered, by_if, some_same, may_change, no_set_of, reply_is, told_call}
+use Rattle.vss_model.proofs.ByEvent.{Covers, Next, covered, some_same, may_change, no_set_of, reply_is, told_call}
 use Rattle.vss_model.proofs.Rows.{number-cut}
 use Rattle.vss_model.proofs.Orderly.{find-map, find-settled_over}
 
@@ -332,8 +332,7 @@ module _ (s : Plan) (e : Event) (m : Mark) (st : State) where
   none_aborted : (o : Option SetRow) → in_progress st ≡ o → in_progress (fold apply st (fails o AsyncCancelled st)) ≡ None
   none_aborted o f = grind (arith, common_steps, find-settled_over)
 
-  aborted : (o : Option SetRow)
-      → ((fold apply st (fails o AsyncCancelled st)).course ≡ st.course)
+  aborted : (o : Option SetRow) → ((fold apply st (fails o AsyncCancelled st)).course ≡ st.course)
       ⊎ ((fold apply st (fails o AsyncCancelled st)).course ≡ course_failed AsyncCancelled st.course)
   aborted o = grind arith
 
@@ -505,12 +504,6 @@ module _ (s : Plan) (st : State) where
   one : (e : Event) (m : Mark) (c : Change) → Comes s e m st st c → Makes s e m st (apply st c) (c ∷ [])
   one e m c h = record { is = refl; come = (h, tt) }
 
-  snapshots : (b : Bool) (lane : ℕ) (q : Session) (m : Mark) → has_no_volume (in_progress st) ≡ b → LetsGo call.Snapshot q st
-      → Happens (Line lane op.Snapshot) m (if b then refused BadState st else pending (snapshot_begun (volumes_of (in_progress st)) st.clock st.course) st)
-  snapshots true lane q m e g = λ i. makes_none s (Line lane op.Snapshot) m st
-  snapshots false lane q m e g = λ i. owned lane op.Snapshot m q _ g.stands
-      (makes_on s (Line lane op.Snapshot) m st true Snapshots (record { session = q; goes = g; course = refl }) (refl, e))
-
   covers : Covers Happens s st
   covers = record {
     stays = λ lane o m told e f i. subst (Makes s (Line lane o) m st st) (sym (stays_quiet told lane o m (may_change o) refl f.refused)) (makes_none s (Line lane o) m st);
@@ -549,9 +542,9 @@ module _ (s : Plan) (st : State) where
         owned lane (op.Add v) m q _ g.stands
         (subst (λ x. Makes s (Line lane (op.Add v)) m st (apply st (AddsVolume r.number v)) (adds v x)) (sym e)
         (one (Line lane (op.Add v)) m (AddsVolume r.number v) (record { row = r; session = q; goes = g; found = e; number = refl; allowed = f; first = refl })));
-    prepares = λ lane q m g. by_if (Happens (Line lane op.Prepare) m) (has_no_volume (in_progress st)) _ _ (λ i. makes_none s (Line lane op.Prepare) m st)
-        (λ i. owned lane op.Prepare m q _ g.stands (makes_on s (Line lane op.Prepare) m st true (Prepares q) (g, refl) refl));
-    snapshots = λ lane q m g. snapshots (has_no_volume (in_progress st)) lane q m refl g;
+    prepares = λ lane q m g f i. owned lane op.Prepare m q _ g.stands (makes_on s (Line lane op.Prepare) m st true (Prepares q) (g, refl) refl);
+    snapshots = λ lane q m g f i. owned lane op.Snapshot m q _ g.stands
+        (makes_on s (Line lane op.Snapshot) m st true Snapshots (record { session = q; goes = g; course = refl }) (refl, f));
     completes = λ lane q m g i. owned lane op.Complete m q _ g.stands
         (makes_on s (Line lane op.Complete) m st true Completes (record { session = q; goes = g; course = refl }) refl);
     aborts = λ lane q m e i. owned lane op.Abort m q _ e (makes_fails s (Line lane op.Abort) m st AsyncCancelled);

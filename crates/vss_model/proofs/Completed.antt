@@ -1,39 +1,33 @@
 -- A set that completes has its image on each of its volumes in that act: each got it in its Commit step.
 use Rattle.std.proofs.Common.{◌≡◌, ℕ, ◌+◌, ◌==◌, ◌<◌, zero, suc, List, [], ◌∷◌, ◌++◌, ◌⊎◌, Option, Some, None, refl, Bool, true, false, map, filter, length, ap}
-use Rattle.std.proofs.Common.{sym, ◌∙◌, subst, find, fold, inl, inr, arith}
+use Rattle.std.proofs.Common.{sym, ◌∙◌, subst, find, inl, inr, arith}
 use Rattle.std.specs.Prelude.{option_map, is_some, ◌&&◌, ◌||◌, not}
-use Rattle.vss_model.proofs.Terms.{nat_tests, list_any-append, eq-eqb, or_parts, common_steps, Context, SetOutcome, Running as RunningSet, VssResult, AsyncCancelled, Said}
-use Rattle.vss_model.proofs.Terms.{Mark, Clean, Write, Image, History, point_in, dropped, written, Placed, gone_up_to, Group, Kind, Gather, Prepare, Snapshot}
-use Rattle.vss_model.proofs.Terms.{Complete, Member, Place, Agenda, Open, with_group, groups_left, open_group, is_among, is_done, is_working, all_say, Course}
-use Rattle.vss_model.proofs.Terms.{posted, failed as course_failed, settled, begun, stepped as course_stepped, change_at, released, Session, Plan, said_of}
-use Rattle.vss_model.proofs.Terms.{State, SetRow, Kept, in_progress, row_of, row_changed, history_of, left_now, has_image, kept_of, kept_image, Ending, ending}
-use Rattle.vss_model.proofs.Terms.{runs, has_lost_image, set_loses_image, is_in_set, new_set, new_number, with_volume, has_no_volume, with_cut, row_cut}
-use Rattle.vss_model.proofs.Terms.{idle_now, Act, after, state, NumberedFrom, has_failed, Cut, Commit, Ok, Entry, plain, at_place, same_place, has_said}
-use Rattle.vss_model.proofs.Terms.{waited_for, open_place, next_member, left, is_snapshot, worked, eqb-true}
+use Rattle.vss_model.proofs.Terms.{nat_tests, list_any-append, eq-eqb, or_parts, common_steps, Context, SetOutcome, Running as RunningSet, VssResult}
+use Rattle.vss_model.proofs.Terms.{AsyncCancelled, Said, Mark, Clean, Write, Image, History, point_in, dropped, written, Placed, gone_up_to, Group, Kind}
+use Rattle.vss_model.proofs.Terms.{Gather, Prepare, Snapshot, Complete, Member, Place, Agenda, Open, with_group, groups_left, open_group, is_among, is_done}
+use Rattle.vss_model.proofs.Terms.{is_working, all_say, Course, posted, failed as course_failed, settled, begun, stepped as course_stepped, change_at, released}
+use Rattle.vss_model.proofs.Terms.{Session, Plan, said_of, State, SetRow, Kept, in_progress, row_of, row_changed, history_of, left_now, has_image, kept_of}
+use Rattle.vss_model.proofs.Terms.{kept_image, Ending, ending, runs, has_lost_image, set_loses_image, is_in_set, new_set, new_number, with_volume, with_cut}
+use Rattle.vss_model.proofs.Terms.{row_cut, idle_now, Act, after, state, NumberedFrom, has_failed, Cut, Commit, Ok, Entry, plain, at_place, same_place}
+use Rattle.vss_model.proofs.Terms.{has_said, waited_for, open_place, next_member, left, is_snapshot, worked, eqb-true, OverButNewest, is_running, row_settled}
 use Rattle.write_history.specs.History.{cut as history_cut}
 use Rattle.vss_model.specs.State.{is_complete}
 use Rattle.vss_model.proofs.StateForm.{concluded, followed, failed_in, failed, cleared, with_room_if, put, write, reverted_as, begin_in, start_set, change_set}
 use Rattle.vss_model.proofs.StateForm.{closed, answered, cut_set, image_made, stepped_as, stepped, ticked, later}
-use Rattle.vss_model.proofs.Appending.{state-append}
-use Rattle.vss_model.proofs.ByEvent.{Covers, Next, no_set_of, some_same, by_if}
+use Rattle.vss_model.proofs.Appending.{by_acts, state-append}
+use Rattle.vss_model.proofs.ByEvent.{Covers, Next, no_set_of, some_same}
 use Rattle.vss_model.proofs.Changes.{after_covered}
-use Rattle.vss_model.proofs.Orderly.{true_not_false, other_way}
-use Rattle.vss_model.proofs.OrderlyActs.{MovesOn, moves_answered, moves_stepped, moves_timed, orderly}
+use Rattle.vss_model.proofs.Orderly.{true_not_false, other_way, newest-map}
+use Rattle.vss_model.proofs.OrderlyActs.{MovesOn, moves_answered, moves_stepped, moves_timed, orderly, same_changed}
 use Rattle.vss_model.proofs.CourseCalls.{Settles, Call, settles, call_answered, call_stepped, call_timed}
 use Rattle.vss_model.proofs.AtCut.{all_said, tied_snapshot}
 use Rattle.vss_model.proofs.HeldOfSet.{Tied, tied, find-row_cut, volumes-row_cut_if}
-use Rattle.vss_model.proofs.HeldWrites.{apart}
-use Rattle.vss_model.proofs.CutStep.{is_commit, commit_is, commit_volume, image_step}
+use Rattle.vss_model.proofs.Volumes.{apart, at, Each, each_map, each_change, change_other, as_many_map, as_many_change, as_many_gone}
+use Rattle.vss_model.proofs.CutStep.{is_commit, commit_is, commit_volume, image_step, as_many_volumes, outcome_is_running}
 use Rattle.vss_model.proofs.OneCut.{changed_number, changed_result, row_number, kept_point}
-use Rattle.vss_model.proofs.SaidBefore.{SaidIn, Elsewhere, said_back, says_elsewhere, still_said, begun_unsaid}
+use Rattle.vss_model.proofs.Spoken.{SaidIn, Elsewhere, said_back, says_elsewhere, still_said, begun_unsaid}
 use Rattle.vss_model.proofs.Rows.{number-cut, has_complete, running_incomplete, incomplete_settled, incomplete_map, incomplete_append, complete_found}
 use Rattle.vss_model.proofs.Rows.{none_runs}
-use Rattle.vss_model.proofs.Volumes.{at, Each, each_map, each_change, change_other, as_many_map, as_many_change, as_many_gone}
-use Rattle.vss_model.proofs.FewerImages.{as_many_volumes}
-use Rattle.vss_model.proofs.FlushFails.{outcome_is_running}
-use Rattle.vss_model.proofs.Terms.{OverButNewest, is_running, row_settled}
-use Rattle.vss_model.proofs.Orderly.{newest-map}
-use Rattle.vss_model.proofs.OrderlyActs.{same_changed}
 
 -- ## the Commit steps in the log
 
@@ -330,21 +324,15 @@ imaged_at s st o h = record {
   ends = λ lane q mark f. imaged_end q (failed AsyncCancelled st);
   begins = λ lane m all c mark g f. imaged_begin lane all (Some c) st h;
   gathers = λ lane q mark g. imaged_begun Gather _ [] st.clock _ st;
-  prepares = λ lane q mark g. by_if (λ r. IsImaged r.1) (has_no_volume (in_progress st)) _ _ h (imaged_begun Prepare _ [] st.clock _ st);
-  snapshots = λ lane q mark g. by_if (λ r. IsImaged r.1) (has_no_volume (in_progress st)) _ _ h (imaged_begun Snapshot st.course.members _ st.clock st.course st);
+  prepares = λ lane q mark g f. imaged_begun Prepare _ [] st.clock _ st;
+  snapshots = λ lane q mark g f. imaged_begun Snapshot st.course.members _ st.clock st.course st;
   completes = λ lane q mark g. imaged_begun Complete _ [] st.clock _ st;
   answers = λ w answer mark g. imaged_answers w (said_of answer) st h;
   steps = λ mark g. imaged_step (is_commit (open_group (left_now st))) mark st refl g h;
 }
 
-imaged_from : (s : Plan) (past acts : List Act) → IsImaged (state s past) → IsImaged (fold (after s) (state s past) acts)
-imaged_from s past [] h = h
-imaged_from s past (act ∷ acts) h =
-    subst (λ st. IsImaged (fold (after s) st acts)) (state-append s past act)
-    (imaged_from s (past ++ act ∷ []) acts (subst IsImaged (sym (state-append s past act)) (after_covered IsImaged s (state s past) (imaged_at s (state s past) (orderly s past).numbered h) h act)))
-
 imaged : (s : Plan) (acts : List Act) → IsImaged (state s acts)
-imaged s acts = imaged_from s [] acts (λ r e u i m. absurd m)
+imaged s acts = by_acts IsImaged s (λ past act h. after_covered IsImaged s (state s past) (imaged_at s (state s past) (orderly s past).numbered h) h act) (λ r e u i m. absurd m) acts
 
 -- ## an act that completes the set
 
@@ -492,8 +480,8 @@ done_at s st r e run h t imaging =
       ends = λ lane q mark f. done_end b n us q (failed AsyncCancelled st) (done_failed b n us (in_progress st) AsyncCancelled st h);
       begins = λ lane m all c mark g f. done_begin b n us lane all (Some c) st h;
       gathers = λ lane q mark g. done_begun b n us Gather _ [] st.clock _ st run h;
-      prepares = λ lane q mark g. by_if (λ r. Done b n us r.1) (has_no_volume (in_progress st)) _ _ (inl h) (done_begun b n us Prepare _ [] st.clock _ st run h);
-      snapshots = λ lane q mark g. by_if (λ r. Done b n us r.1) (has_no_volume (in_progress st)) _ _ (inl h) (done_begun b n us Snapshot st.course.members _ st.clock st.course st run h);
+      prepares = λ lane q mark g f. done_begun b n us Prepare _ [] st.clock _ st run h;
+      snapshots = λ lane q mark g f. done_begun b n us Snapshot st.course.members _ st.clock st.course st run h;
       completes = λ lane q mark g. done_begun b n us Complete _ [] st.clock _ st run h;
       answers = λ w answer mark g. done_answers b n us w (said_of answer) st run h images;
       steps = λ mark g. done_step (is_commit (open_group (left_now st))) r mark st refl g e run h t imaging;
@@ -576,8 +564,8 @@ module _ (n : ℕ) where
     ends = λ lane q mark f. done_failed true n [] (in_progress st) AsyncCancelled st h;
     begins = λ lane m all c mark g f. h;
     gathers = λ lane q mark g. other_followed true _ st o i h;
-    prepares = λ lane q mark g. by_if (λ r. Incomplete r.1) (has_no_volume (in_progress st)) _ _ h (other_followed true _ st o i h);
-    snapshots = λ lane q mark g. by_if (λ r. Incomplete r.1) (has_no_volume (in_progress st)) _ _ h (other_followed true _ st o i h);
+    prepares = λ lane q mark g f. other_followed true _ st o i h;
+    snapshots = λ lane q mark g f. other_followed true _ st o i h;
     completes = λ lane q mark g. other_followed true _ st o i h;
     answers = λ w answer mark g. other_followed (runs st) _ st o i h;
     steps = λ mark g. other_stepped_as _ _ _ st o i h;

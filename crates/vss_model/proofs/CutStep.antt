@@ -1,17 +1,26 @@
--- The Cut step and a volume's Commit step do not fail: one cuts the set in progress, the other gives the volume its image. The
--- provider's other steps change nothing but the course.
-use Rattle.std.proofs.Common.{◌≡◌, ℕ, List, Option, Some, None, Bool, true, false, refl, ap, ◌∙◌, sym, subst, arith}
-use Rattle.std.specs.Prelude.{◌&&◌}
+-- The Cut step and a volume's Commit step do not fail, only a Commit step gives an image, and a device that fails a flush fails the set.
+use Rattle.std.proofs.Common.{◌≡◌, ℕ, List, Option, Some, None, Bool, true, false, refl, ap, ◌∙◌, sym, subst, arith, [], ◌∷◌, length, fold, ◌==◌, find, map}
+use Rattle.std.specs.Prelude.{◌&&◌, option_map}
+use Rattle.vss_model.proofs.AtCut.{CutsNow}
+use Rattle.vss_model.proofs.Changes.{Comes, after_is, is_end, by_ends, makes_cut, makes_image, by_changes}
+use Rattle.vss_model.proofs.CourseCalls.{head_waits}
+use Rattle.vss_model.proofs.HeldOfSet.{is_cut_made}
+use Rattle.vss_model.proofs.OrderlyActs.{orderly}
+use Rattle.vss_model.proofs.Rows.{running_found, row_running, row_settles, result-settled}
+use Rattle.vss_model.proofs.Spoken.{waits_members, waits_unsaid}
+use Rattle.vss_model.proofs.StateForm.{followed, cut_set, image_made, stepped, images_dropped, concluded}
 use Rattle.vss_model.proofs.Terms.{common_steps, nat_tests, list_any-append, eq-eqb, Mark, Group, Commit, Place, Open, Agenda, is_working, is_snapshot}
 use Rattle.vss_model.proofs.Terms.{is_among, has_said, plain, places, left, groups_left, open_group, open_place, next_volume, next_member, members_of, settled}
 use Rattle.vss_model.proofs.Terms.{posted, worked, Course, stepped as course_stepped, Plan, State, SetRow, in_progress, left_now, ending, runs, Act, after}
-use Rattle.vss_model.proofs.Terms.{is_provider, is_cut_group, Change, apply}
-use Rattle.vss_model.proofs.StateForm.{followed, cut_set, image_made, stepped}
-use Rattle.vss_model.proofs.Changes.{Comes, after_is, is_end, by_ends, makes_cut, makes_image}
-use Rattle.vss_model.proofs.CutLog.{is_cut_made}
-use Rattle.vss_model.proofs.AtCut.{CutsNow}
-use Rattle.vss_model.proofs.CourseCalls.{head_waits}
-use Rattle.vss_model.proofs.Spoken.{waits_members, waits_unsaid}
+use Rattle.vss_model.proofs.Terms.{is_provider, is_cut_group, Change, apply, History, dropped, written, reverted, reverted_in_part, Event, Ending, SetFails}
+use Rattle.vss_model.proofs.Terms.{state, Writes, Makes, Reverts, RevertsPart, DropsSet, Drops, Evicts, SetOutcome, Running, Failed, VssResult}
+use Rattle.vss_model.proofs.Terms.{UnexpectedProviderError, Fault, Flush, failed as course_failed, Provider, is_running, row_of, row_settled, IsOfSession}
+use Rattle.vss_model.proofs.Terms.{has_failed, IsFailed, Session}
+use Rattle.vss_model.proofs.Volumes.{FewerIn, fewer_in_same, fewer_in_over, fewer_in_map, fewer_in_change, fewer_in_gone, fewer_dropped, fewer_written}
+use Rattle.vss_model.proofs.Volumes.{fewer_reverted, fewer_in_part, as_many_change}
+
+-- ## The Cut step and a volume's Commit step do not fail: one cuts the set in progress, the other gives the volume its image. The
+-- provider's other steps change nothing but the course.
 
 -- ## tests
 
@@ -143,3 +152,96 @@ pub says_stepped : (now : ℕ) (c : Course) → SaysStep (open_place (left c.age
 says_stepped now c =
     let p = open_place (left c.agenda) in
     let v = next_member (left c.agenda) in says_posted p v c _ (says_settled p v (worked now c) (says_worked now c c.agenda refl))
+
+-- ## Only a Commit step gives an image: after any other act each volume has no image of another set, and no more of them.
+
+abbrev pub gives_image : Change → Bool
+gives_image (Makes n v) = true
+gives_image _ = false
+
+pub fewer_apply : (c : Change) (x : State) → gives_image c ≡ false → FewerIn x.volumes (apply x c).volumes
+fewer_apply (Writes v w) x e = fewer_in_change (written w) (fewer_written w) v x.volumes
+fewer_apply (Makes n v) x e = absurd cc
+fewer_apply (Reverts v n p) x e = fewer_in_change (reverted n p) (fewer_reverted n p) v x.volumes
+fewer_apply (RevertsPart v blocks n p k) x e = fewer_in_change (reverted_in_part blocks n p k) (fewer_in_part blocks n p k) v x.volumes
+fewer_apply (DropsSet n) x e = fewer_in_map (dropped n) (fewer_dropped n) x.volumes
+fewer_apply (Drops n v) x e = fewer_in_change (dropped n) (fewer_dropped n) v x.volumes
+fewer_apply (Evicts n group) x e = fewer_in_gone n group x.volumes
+fewer_apply _ x e = fewer_in_same x.volumes
+
+-- an act that is no Commit step gives none
+pub no_image_given : (s : Plan) (e : Event) (m : Mark) (st x : State) (c : Change) → (is_provider e && is_commit (open_group (left_now st))) ≡ false → Comes s e m st x c → gives_image c ≡ false
+no_image_given s e m st x c f i = grind (arith, common_steps)
+
+pub fewer_after : (s : Plan) (st : State) (act : Act) → (is_provider act.event && is_commit (open_group (left_now st))) ≡ false → FewerIn st.volumes (after s st act).volumes
+fewer_after s st act f =
+    by_changes (λ x. FewerIn st.volumes x.volumes) s st act
+    (λ c x i h. fewer_in_over st.volumes x.volumes _ h (fewer_apply c x (no_image_given s act.event act.mark st x c f i))) (fewer_in_same st.volumes)
+
+-- ## where the course goes on
+
+pub fewer_images_dropped : (o : Option SetRow) (ks : List History) → FewerIn ks (images_dropped o ks)
+fewer_images_dropped None ks = fewer_in_same ks
+fewer_images_dropped (Some r) ks = fewer_in_map (dropped r.number) (fewer_dropped r.number) ks
+
+fewer_concluded : (e : Ending) (st : State) → FewerIn st.volumes (concluded e st).volumes
+fewer_concluded (SetFails why) st = fewer_images_dropped (in_progress st) st.volumes
+fewer_concluded _ st = fewer_in_same st.volumes
+
+pub fewer_followed : (ran : Bool) (c : Course) (st : State) → FewerIn st.volumes (followed ran c st).volumes
+unfolding followed
+fewer_followed ran c st = fewer_concluded (ending st.course.outcome c.outcome ran c.agenda) (record st { course = c })
+
+-- ## as many volumes as at the start
+
+as_many_apply : (c : Change) (x : State) → length (apply x c).volumes ≡ length x.volumes
+as_many_apply c x = grind (arith, common_steps, as_many_change, fewer_apply)
+
+as_many_from : (s : Plan) (st : State) (acts : List Act) → length (fold (after s) st acts).volumes ≡ length st.volumes
+as_many_from s st [] = refl
+as_many_from s st (act ∷ acts) = as_many_from s (after s st act) acts ∙ by_changes (λ x. length x.volumes ≡ length st.volumes) s st act (λ c x i h. as_many_apply c x ∙ h) refl
+
+-- there are always as many volumes as in the scenario
+pub as_many_volumes : (s : Plan) (acts : List Act) → length (state s acts).volumes ≡ length s.volumes
+as_many_volumes s acts = grind (arith, common_steps, nat_tests, as_many_from)
+
+-- ## A device that fails to flush fails the set in progress in that act.
+
+stepped_fails : (mark : Mark) (st : State) → open_group (left_now st) ≡ Some Flush → mark ≡ Fault → stepped mark st ≡ followed (runs st) (course_stepped false st.clock st.course) st
+unfolding stepped
+stepped_fails mark st e f = grind (arith, common_steps, nat_tests)
+
+working_at_flush : (os : List Open) → open_group os ≡ Some Flush → is_working os ≡ true
+working_at_flush os e = grind arith
+
+outcome_stepped : (now : ℕ) (c : Course) → (course_stepped false now c).outcome ≡ Failed UnexpectedProviderError
+unfolding posted course_failed
+outcome_stepped now c = refl
+
+sets_followed : (ran : Bool) (c : Course) (st : State) (why : VssResult) → st.course.outcome ≡ Running → c.outcome ≡ Failed why → (followed ran c st).sets ≡ map (row_settled c.outcome) st.sets
+unfolding followed
+sets_followed ran c st why e f = grind (arith, common_steps, nat_tests)
+
+pub outcome_in : (q : Option Session) (o : SetOutcome) (r : SetRow) → IsOfSession q o (Some r) → o ≡ Running
+outcome_in q o r h = grind arith
+
+-- the outcome of the course while a set is in progress
+pub outcome_is_running : (s : Plan) (so_far : List Act) (r : SetRow) → in_progress (state s so_far) ≡ Some r → (state s so_far).course.outcome ≡ Running
+outcome_is_running s so_far r e =
+    let st = state s so_far in
+    outcome_in st.session st.course.outcome r (subst (λ o. IsOfSession st.session st.course.outcome o) e (orderly s so_far).session)
+
+pub flush_fails : (s : Plan) (so_far : List Act) (act : Act) (r : SetRow) → in_progress (state s so_far) ≡ Some r → act.event ≡ Provider → open_group (left_now (state s so_far)) ≡ Some Flush → act.mark ≡ Fault → IsFailed (after s (state s so_far) act) r.number
+flush_fails s so_far act r e f g h =
+    let st = state s so_far in
+    let c = course_stepped false st.clock st.course in
+    let row = row_settled c.outcome r in
+    let next : after s st act ≡ followed (runs st) c st = after_provider s st act (ap is_provider f) (working_at_flush (left_now st) g) ∙ stepped_fails act.mark st g h in
+    let sets = sets_followed (runs st) c st UnexpectedProviderError (outcome_is_running s so_far r e) (outcome_stepped st.clock st.course) in
+    let found = row_running 1 st.sets r (orderly s so_far).numbered e in
+    let here : row_of (followed (runs st) c st) r.number ≡ Some row = ap (find (λ (q : SetRow). q.number == r.number)) sets ∙ row_settles c.outcome r.number st.sets ∙ ap (option_map (row_settled c.outcome)) found in
+    record {
+      row = row;
+      is = ap (λ x. row_of x r.number) next ∙ here;
+      failed = ap has_failed (result-settled (is_running r.result) c.outcome r (running_found st.sets r e) ∙ outcome_stepped st.clock st.course);
+    }

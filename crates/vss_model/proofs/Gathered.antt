@@ -9,7 +9,7 @@ use Rattle.vss_model.proofs.Terms.{Kind, Gather, Prepare, Snapshot, Complete, Me
 use Rattle.vss_model.proofs.Terms.{failed as course_failed, member_if, members_from, is_member, has_row_failed, answered as course_answered}
 use Rattle.vss_model.proofs.Terms.{stepped as course_stepped, timed as course_timed, released, Mode, Components, All, Stage, Opened, Gathered, Started, Session}
 use Rattle.vss_model.proofs.Terms.{has_writers, is_stage, Plan, WriterPlan, said_of, State, SetRow, Kept, start, in_progress, Ending, ending, runs}
-use Rattle.vss_model.proofs.Terms.{has_failed_identify, has_no_volume, with_volume, selected_in, is_known, known_from, known_metas, idle_now, Act, after, state}
+use Rattle.vss_model.proofs.Terms.{has_failed_identify, with_volume, selected_in, is_known, known_from, known_metas, idle_now, Act, after, state}
 use Rattle.vss_model.proofs.Terms.{LetsGo, IsAgendaOf, Event, Change, apply}
 use Rattle.component_doc.specs.Selection.{known_from as known_of}
 use Rattle.requestor.specs.declared.session_call.SessionCall.TheVariants as call
@@ -18,14 +18,13 @@ use Rattle.vss_model.proofs.StateForm.{stepped_as, stepped, ticked, later}
 use Rattle.vss_model.proofs.Changes.{CourseCall, Answers, Steps, Times, Gathers, Prepares, Snapshots, Completes, Disables, Fails, Releases, called, IsDue}
 use Rattle.vss_model.proofs.Changes.{Stands, SessionStep, session_after, IsStepDue, Comes, by_all_changes, after_covered}
 use Rattle.vss_model.proofs.OrderlyActs.{orderly}
-use Rattle.vss_model.proofs.ByEvent.{Covers, Next, by_if}
+use Rattle.vss_model.proofs.ByEvent.{Covers, Next}
 use Rattle.vss_model.proofs.Spoken.{filter_passes}
 use Rattle.vss_model.proofs.Rows.{none_runs}
 use Rattle.vss_model.proofs.Orderly.{true_not_false}
 use Rattle.vss_model.proofs.HeldOfSet.{Follows, goes_answered, goes_stepped, goes_timed}
 use Rattle.vss_model.proofs.KnownWriters.{is_unfit, AsFit, AsksFitIn, is_gathering, Keeps, keeps_failed, keeps_answered, keeps_stepped, keeps_timed}
-use Rattle.vss_model.proofs.KnownWriters.{members_answered, members_timed}
-use Rattle.vss_model.proofs.Named.{AreOver, known_same, named_over}
+use Rattle.vss_model.proofs.KnownWriters.{members_answered, members_timed, AreOver, known_same, named_over}
 
 -- ## the facts
 
@@ -244,8 +243,7 @@ module _ (s : Plan) (st : State) where
       let c = record x.course { rows = map row_gathered x.course.rows } in
       inl (record {
         explicit = h.explicit;
-        members = (begun_members Gather _ [] st.clock c).members
-            ∙ h.members;
+        members = (begun_members Gather _ [] st.clock c).members ∙ h.members;
         agenda = bare_begun_agenda Gather _ [] st.clock c (inl refl);
       })
   on_called e x Gathers i k (inr h) =
@@ -255,8 +253,7 @@ module _ (s : Plan) (st : State) where
   on_called e x Snapshots i k (inl h) =
       inl (record {
         explicit = h.explicit;
-        members = (begun_members Snapshot _ _ st.clock x.course).members
-            ∙ h.members;
+        members = (begun_members Snapshot _ _ st.clock x.course).members ∙ h.members;
         agenda = bare_begun_agenda Snapshot _ _ st.clock x.course (inr h.members);
       })
   on_called e x Snapshots i k (inr h) = inr
@@ -265,8 +262,7 @@ module _ (s : Plan) (st : State) where
       let test = λ (m : Member). not (has_row_failed x.course.rows m.writer) in
       inl (record {
         explicit = h.explicit;
-        members = (begun_members Complete _ [] st.clock x.course).members
-            ∙ h.members;
+        members = (begun_members Complete _ [] st.clock x.course).members ∙ h.members;
         agenda = bare_begun_agenda Complete _ [] st.clock x.course (inr (ap (filter test) h.members));
       })
   on_called e x Completes i k (inr h) =
@@ -384,8 +380,8 @@ module _ (s : Plan) (st : State) where
     ends = λ lane x mark f. knows_end x (failed AsyncCancelled st);
     begins = λ lane m all c mark g f. absurd (no_begin st.session q e g);
     gathers = λ lane x mark g. absurd (opened_not_late x.stage (has_writers x.context) g.allowed (late_at st.session x g.stands (subst LateIn (sym e) l)));
-    prepares = λ lane x mark g. by_if (λ r. KnowsStill r.1) (has_no_volume (in_progress st)) _ _ (knows_same st refl) (knows_begun Prepare _ [] st.clock _ refl (λ w. refl));
-    snapshots = λ lane x mark g. by_if (λ r. KnowsStill r.1) (has_no_volume (in_progress st)) _ _ (knows_same st refl) (knows_begun Snapshot _ _ st.clock st.course refl (λ w. refl));
+    prepares = λ lane x mark g f. knows_begun Prepare _ [] st.clock _ refl (λ w. refl);
+    snapshots = λ lane x mark g f. knows_begun Snapshot _ _ st.clock st.course refl (λ w. refl);
     completes = λ lane x mark g. knows_begun Complete _ [] st.clock st.course refl (λ w. refl);
     answers = λ w answer mark g. knows_answers w (said_of answer) a;
     steps = λ mark g. knows_steps mark;

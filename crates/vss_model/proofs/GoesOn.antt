@@ -11,11 +11,11 @@ use Rattle.write_history.specs.declared.actor.Actor.TheVariants.{Idle as IdleAct
 use Rattle.vss_model.proofs.StateForm.{closed, called, line}
 use Rattle.vss_model.proofs.Changes.{after_enabled, SessionStep, Opens, Starts, EndsAgenda, FailsSet, Closes, session_after, IsStepDue, Comes, by_changes}
 use Rattle.vss_model.proofs.Rows.{none_runs}
-use Rattle.vss_model.proofs.Rule.{begins_at}
+use Rattle.vss_model.proofs.Rules.{begins_at}
 use Rattle.vss_model.proofs.Appending.{state-run, moves-run}
 use Rattle.vss_model.proofs.Orderly.{true_not_false}
 use Rattle.vss_model.proofs.Waiting.{working_or_asking}
-use Rattle.vss_model.proofs.GoingOn.{running_off}
+use Rattle.vss_model.proofs.ByEvent.{running_off}
 
 -- ## whose session stands
 
@@ -151,8 +151,7 @@ other_lane a b e = grind arith
 
 from_own : (b : Bool) (s : Plan) (moves : List Move) (m : Move) (st : State) (q : Session) (l : LaneLine) → is_end l.op ≡ b → m.actor ≡ Lane q.owner
     → slice_get (lines_of s q.owner) (cursor moves q.owner) ≡ Some l → st.session ≡ Some q → enabled s st (Line q.owner l.op) ≡ true
-    → has_end (rest_of s moves q.owner) ≡ true
-    → EndsLeft s (moves ++ m ∷ []) (after s st (act_of m.mark (Line q.owner l.op))).session
+    → has_end (rest_of s moves q.owner) ≡ true → EndsLeft s (moves ++ m ∷ []) (after s st (act_of m.mark (Line q.owner l.op))).session
 from_own true s moves m st q l b e f g on h =
     subst (EndsLeft s (moves ++ m ∷ []))
     (sym (ap (λ x. x.session) (after_enabled s st (act_of m.mark (Line q.owner l.op)) on) ∙ ap (λ op. (line s q.owner op m.mark st).1.session) (end_op l.op b) ∙ own_end s q m.mark st g)) tt

@@ -1,16 +1,113 @@
--- A running snapshot agenda is that of the one set in progress, with its volumes and participants.
-use Rattle.std.proofs.Common.{◌≡◌, ℕ, List, [], ◌∷◌, Option, Some, None, refl, Bool, true, false, map, ap, ◌∙◌, find, arith}
-use Rattle.std.specs.Prelude.{option_map, if◌then◌else◌}
-use Rattle.vss_model.proofs.Terms.{nat_tests, common_steps, Order, VssResult, SetOutcome, Said, Ok, Mark, Kind, Gather, Prepare, Snapshot, Complete, Member}
-use Rattle.vss_model.proofs.Terms.{Place, Agenda, left, all_say, next_member, has_said, Course, posted, failed as course_failed, settled, begun, told}
-use Rattle.vss_model.proofs.Terms.{answered as course_answered, worked, stepped as course_stepped, timed as course_timed, released, Plan, State, SetRow, start}
-use Rattle.vss_model.proofs.Terms.{is_running, in_progress, is_held, is_frozen, runs, has_no_volume, volumes_of, row_cut, Event, Act, state, RunsSnapshot}
-use Rattle.vss_model.proofs.Terms.{IsKeptFrom, from_settled, from_answered, from_timed, Change, apply}
+-- What the log of a running agenda says before the Cut step; and a snapshot agenda is that of the one set in progress.
+use Rattle.std.proofs.Common.{◌≡◌, ℕ, List, [], ◌∷◌, ◌++◌, Option, refl, Bool, true, false, map, sym, ◌∙◌, arith, Some, None, ap, fold, find}
+use Rattle.std.proofs.lemmas.Grind.{common_steps}
+pub use Rattle.std.proofs.lemmas.List.{append-nil as append_nothing}
+use Rattle.std.proofs.lemmas.List.{append_assoc}
+use Rattle.std.specs.Prelude.{◌&&◌, ◌||◌, not, option_map, if◌then◌else◌}
 use Rattle.set_agenda.specs.Agenda.{is_held as holds, is_frozen as freezes}
-use Rattle.vss_model.proofs.Rows.{none_runs}
+use Rattle.vss_model.specs.Acts.{after}
+use Rattle.vss_model.specs.Cut.{is_cut_of, cut_if, cut_from, cut}
+use Rattle.vss_model.specs.State.{State, start}
 use Rattle.vss_model.proofs.Changes.{CourseCall, Answers, Steps, Times, Gathers, Prepares, Snapshots, Completes, Disables, called, IsDue, Stands, Comes}
 use Rattle.vss_model.proofs.Changes.{by_all_changes}
-use Rattle.vss_model.proofs.CutLog.{said_stays}
+use Rattle.vss_model.proofs.Orderly.{true_not_false}
+use Rattle.vss_model.proofs.Rows.{none_runs}
+use Rattle.vss_model.proofs.Rules.{IsKeptInLog, Running, in_log}
+use Rattle.vss_model.proofs.Terms.{list_any, list_any-append, or_from, or_left, Thaw, Said, is_ok, Group, Orders, Cut, Release, Kind, Place, Agenda, Entry}
+use Rattle.vss_model.proofs.Terms.{plain, places, is_freeze, has_said, left_from, groups_left, open_place, at_place, all_say, Plan, Act, state, nat_tests}
+use Rattle.vss_model.proofs.Terms.{Order, VssResult, SetOutcome, Ok, Mark, Gather, Prepare, Snapshot, Complete, Member, left, next_member, Course, posted}
+use Rattle.vss_model.proofs.Terms.{failed as course_failed, settled, begun, told, answered as course_answered, worked, stepped as course_stepped}
+use Rattle.vss_model.proofs.Terms.{timed as course_timed, released, SetRow, is_running, in_progress, is_held, is_frozen, runs, has_no_volume, volumes_of}
+use Rattle.vss_model.proofs.Terms.{row_cut, Event, RunsSnapshot, IsKeptFrom, from_settled, from_answered, from_timed, Change, apply}
+
+-- ## What the log of a running agenda says: nothing but ok to Freeze, and before the Cut step nothing of a Release or a Thaw.
+-- So at the Cut step every volume is held and every participant is frozen.
+
+-- ## the log
+
+-- the groups that release a volume or thaw a writer
+abbrev pub undoes : Group → Bool
+undoes (Orders Thaw) = true
+undoes (Orders _) = false
+undoes Release = true
+undoes _ = false
+
+abbrev pub is_refusal : Entry → Bool
+is_refusal e = is_freeze e.place.group && not (is_ok e.said)
+
+abbrev pub is_undoing : Entry → Bool
+is_undoing e = undoes e.place.group
+
+abbrev pub is_cut_made : List Entry → Bool
+is_cut_made log = has_said log (plain Cut) 0
+
+pub record IsSound (log : List Entry) : Type 0 where
+  pub freezes : list_any is_refusal log ≡ false
+  pub cut_first : list_any is_undoing log ≡ true → is_cut_made log ≡ true
+
+abbrev pub SoundLog : Option Agenda → Type 0
+SoundLog a = Running (λ x. IsSound x.log) a
+
+-- ## what is said at the open place
+
+any-at_place : (test : Entry → Bool) (p : Place) (said : Said) (now : ℕ) (ws : List ℕ) → ((w : ℕ) → test (at_place p said now w) ≡ false) → list_any test (map (at_place p said now) ws) ≡ false
+any-at_place test p said now [] e = refl
+any-at_place test p said now (w ∷ ws) e = rw (e w) (any-at_place test p said now ws e)
+
+pub either_way : (a b c : Bool) → (a || b) ≡ true → (a ≡ true → c ≡ true) → (b ≡ true → c ≡ true) → c ≡ true
+either_way a b c e f g = grind arith
+
+-- what was said stays said
+pub said_stays : (log new : List Entry) (p : Place) (who : ℕ) → has_said log p who ≡ true → has_said (log ++ new) p who ≡ true
+said_stays log new p who e = grind (arith, list_any-append, or_left)
+
+cut_stays : (log new : List Entry) → is_cut_made log ≡ true → is_cut_made (log ++ new) ≡ true
+cut_stays log new e = said_stays log new (plain Cut) 0 e
+
+cut_before_in : (k : Kind) (a : Agenda) → undoes (open_place (left_from a (places k))).group ≡ true → is_cut_made a.log ≡ true
+cut_before_in k a h = grind arith
+
+all_false : (test : Entry → Bool) (p : Place) (said : Said) (now : ℕ) (ws : List ℕ) (b : Bool) → ((w : ℕ) → test (at_place p said now w) ≡ b) → list_any test (map (at_place p said now) ws) ≡ true → b ≡ true
+all_false test p said now ws b e h = grind (arith, true_not_false, any-at_place)
+
+sound-say : (said : Said) (now : ℕ) (ws : List ℕ) (a : Agenda) → (is_freeze (open_place (groups_left a)).group && not (is_ok said)) ≡ false → IsSound a.log → IsSound (all_say said now ws a).log
+sound-say said now ws a e h =
+    let p = open_place (groups_left a) in
+    let new = map (at_place p said now) ws in
+    record {
+      freezes = list_any-append is_refusal a.log new ∙ or_from (list_any is_refusal a.log) (list_any is_refusal new) h.freezes (any-at_place is_refusal p said now ws (λ w. e));
+      cut_first = λ f. either_way (list_any is_undoing a.log) (list_any is_undoing new) (is_cut_made (a.log ++ new)) (sym (list_any-append is_undoing a.log new) ∙ f)
+          (λ g. cut_stays a.log new (h.cut_first g))
+          (λ g. cut_stays a.log new (cut_before_in a.kind a (all_false is_undoing p said now ws (undoes p.group) (λ w. refl) g)));
+    }
+
+-- ## every act
+
+sound_in_log : IsKeptInLog (λ a. IsSound a.log)
+sound_in_log = record {
+  begins = λ k ms vs now. record { freezes = refl; cut_first = λ e. absurd cc };
+  says = λ said now ws a waited mild h. sound-say said now ws a mild h;
+}
+
+pub sound : (s : Plan) (acts : List Act) → SoundLog (state s acts).course.agenda
+sound s acts = in_log (λ a. IsSound a.log) sound_in_log s acts
+
+-- ## where one more act leaves the cut of a set
+
+abbrev pub or_cut : Option (List Act) → Option (List Act) → Option (List Act)
+or_cut None o = o
+or_cut (Some acts) o = Some acts
+
+cut_from-append : (s : Plan) (n : ℕ) (before : List Act) (st : State) (acts : List Act) (act : Act)
+    → cut_from s n before st (acts ++ act ∷ []) ≡ or_cut (cut_from s n before st acts) (cut_if (is_cut_of n (fold (after s) st acts) act) (before ++ acts) None)
+cut_from-append s n before st [] act = ap (λ x. cut_if (is_cut_of n st act) x None) (sym (append_nothing before))
+cut_from-append s n before st (a ∷ acts) act =
+    let ih = cut_from-append s n (before ++ a ∷ []) (after s st a) acts act in grind (arith, common_steps, append_assoc)
+
+pub cut-append : (s : Plan) (n : ℕ) (acts : List Act) (act : Act) → cut s n (acts ++ act ∷ []) ≡ or_cut (cut s n acts) (cut_if (is_cut_of n (state s acts) act) acts None)
+cut-append s n acts act = cut_from-append s n [] (start s) acts act
+
+-- ## A running snapshot agenda is that of the one set in progress, with its volumes and participants.
 
 -- ## the fact
 

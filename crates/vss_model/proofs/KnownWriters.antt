@@ -1,14 +1,19 @@
--- The writers whose metadata the session has do not change once they are gathered, and only they are asked to take part.
+-- The writers whose metadata the session has, and what it names: selectable components of these writers.
 use Rattle.std.proofs.Common.{◌≡◌, ℕ, ◌+◌, zero, suc, List, [], ◌∷◌, Option, Some, None, refl, Bool, true, false, ap, sym, ◌∙◌, subst, arith}
-use Rattle.std.specs.Prelude.{slice_get}
+use Rattle.std.specs.Prelude.{slice_get, ◌&&◌}
+use Rattle.component_doc.proofs.Order.{over-more}
+use Rattle.vss_model.proofs.CourseCalls.{now_orders}
+use Rattle.vss_model.proofs.Spoken.{waits_members, among_filter, among_members}
 use Rattle.vss_model.proofs.Terms.{nat_tests, common_steps, Order, Identify, PrepareBackup, BackupComplete, Level, VssResult, Said, WriterRow, row_after, Group}
 use Rattle.vss_model.proofs.Terms.{Orders, Kind, Gather, Prepare, Snapshot, Complete, Place, Member, Agenda, Open, plain, places, order_of, is_orders}
 use Rattle.vss_model.proofs.Terms.{members_of, waited_for, with_group, left_from, groups_left, open_place, is_among, order_now, waits_now, Course, rows_where}
 use Rattle.vss_model.proofs.Terms.{is_member, posted, failed as course_failed, settled_if, settled, told, answered as course_answered, worked}
 use Rattle.vss_model.proofs.Terms.{stepped as course_stepped, timed as course_timed, is_identify_failure, has_failed_identify, IsAsked, IsKeptFrom}
-use Rattle.vss_model.proofs.Terms.{from_answered, from_timed, IsKeptInCourse, course_answered as kept_answered, course_timed as kept_timed}
-use Rattle.vss_model.proofs.CourseCalls.{now_orders}
-use Rattle.vss_model.proofs.Spoken.{waits_members, among_filter, among_members}
+use Rattle.vss_model.proofs.Terms.{from_answered, from_timed, IsKeptInCourse, course_answered as kept_answered, course_timed as kept_timed, list_all, Meta}
+use Rattle.vss_model.proofs.Terms.{Pair, Names, naming, naming_of, naming_found, naming_if, has_pair, with_pair, found_in, found_of, names_selectable}
+use Rattle.vss_model.proofs.Terms.{is_ascending, Plan, State, known_metas}
+
+-- ## The writers whose metadata the session has do not change once they are gathered, and only they are asked to take part.
 
 -- ## who has failed at Identify
 
@@ -159,3 +164,30 @@ members_answered w said now c = kept_answered (λ d. d.members ≡ c.members) (m
 
 pub members_timed : (now : ℕ) (c : Course) → (course_timed now c).members ≡ c.members
 members_timed now c = kept_timed (λ d. d.members ≡ c.members) (members_kept c.members) now c refl
+
+-- ## What a session names are selectable components of writers that it knows.
+
+-- ## who is known
+
+pub known_same : (s : Plan) (st x : State) → x.course.disabled ≡ st.course.disabled → AsFit st.course.rows x.course.rows → known_metas s x ≡ known_metas s st
+known_same s st x e f = grind (arith, common_steps, nat_tests)
+
+-- ## what is named
+
+abbrev pub AreOver : List (Option Meta) → List Pair → Type 0
+AreOver ms ps = (list_all (names_selectable ms) ps && is_ascending ps) ≡ true
+
+named_if : (ms : List (Option Meta)) (q : Pair) (ps new : List Pair) (a b : Bool) → naming_if a b q ps ≡ Names new → (a ≡ true → b ≡ false → AreOver ms (with_pair q ps)) → AreOver ms new
+named_if ms q ps new a b i over = grind arith
+
+named_of : (ms : List (Option Meta)) (w : ℕ) (name : List ℕ) (o : Option (Option Meta)) (ps new : List Pair) → slice_get ms w ≡ o → naming_of w name o ps ≡ Names new → AreOver ms ps → AreOver ms new
+named_of ms w name None ps new e i over = absurd cc
+named_of ms w name (Some None) ps new e i over = absurd cc
+named_of ms w name (Some (Some m)) ps new e i over =
+    (elim (found_in name m.parts) as (λ x. found_of name (slice_get ms w) ≡ x → naming_found w x ps ≡ Names new → AreOver ms new) [
+      | None ↦ λ f g. absurd cc
+      | Some x ↦ λ f g. named_if ms (record { writer = w; component = x.component }) ps new x.selectable (has_pair ps w x.component) g (λ a b. over-more ms name (record { writer = w; component = x.component }) x ps (sym f) refl a b over)
+    ]) (ap (found_of name) e) i
+
+pub named_over : (ms : List (Option Meta)) (w : ℕ) (name : List ℕ) (ps new : List Pair) → naming ms w name ps ≡ Names new → AreOver ms ps → AreOver ms new
+named_over ms w name ps new i over = named_of ms w name (slice_get ms w) ps new refl i over

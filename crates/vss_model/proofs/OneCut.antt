@@ -1,6 +1,6 @@
 -- Every act keeps what the images show.
 use Rattle.std.proofs.Common.{◌≡◌, ℕ, ◌+◌, ◌==◌, ◌<◌, ◌≤◌, zero, suc, List, [], ◌∷◌, ◌++◌, Option, Some, None, refl, Bool, true, false, map, length, take, ap}
-use Rattle.std.proofs.Common.{sym, ◌∙◌, subst, find, fold, inl, inr, arith}
+use Rattle.std.proofs.Common.{sym, ◌∙◌, subst, find, inl, inr, arith}
 use Rattle.std.specs.Prelude.{option_map, is_some, ◌⊎◌, ◌&&◌, if◌then◌else◌, nat_lt}
 use Rattle.vss_model.proofs.Terms.{nat_tests, take-append_seam, length_push, length-map, eqb-true, cases_lt, common_steps, SetOutcome, Member, Mark, Write}
 use Rattle.vss_model.proofs.Terms.{Image, History, content, fresh, point_in, dropped, written, reverted, reverted_in_part, AreLater, AreInTime, Kind, Snapshot}
@@ -8,32 +8,29 @@ use Rattle.vss_model.proofs.Terms.{Hold, Cut, Commit, Release, Agenda, Open, pla
 use Rattle.vss_model.proofs.Terms.{is_working, open_group, is_snapshot, is_among, Course, change_at, failed as course_failed, stepped as course_stepped}
 use Rattle.vss_model.proofs.Terms.{released, Plan, VolumeRow, State, SetRow, row_changed, Kept, is_running, in_progress, row_of, history_of, left_now, is_held}
 use Rattle.vss_model.proofs.Terms.{has_image, kept_of, row_settled, runs, is_in_set, with_volume, volumes_of, row_cut, Act, after, state, NumberedFrom}
-use Rattle.vss_model.proofs.Terms.{OverButNewest, IsOrderly, is_provider, is_cut_group, is_set, is_cut_of, cut_from, cut, IsShownAt, Event, Change, Passes}
+use Rattle.vss_model.proofs.Terms.{OverButNewest, IsOrderly, is_provider, is_cut_group, is_set, is_cut_of, cut, IsShownAt, Event, Change, Passes}
 use Rattle.vss_model.proofs.Terms.{SessionIs, StartsSet, AddsVolume, IsCutAt as CutsAt, CourseIs, Settles, Writes, Makes, Reverts, RevertsPart, DropsSet, Drops}
 use Rattle.vss_model.proofs.Terms.{Evicts, apply}
 use Rattle.write_history.specs.History.{cut as history_cut}
 use Rattle.set_agenda.specs.Agenda.{is_held as holds}
-use Rattle.vss_model.proofs.StateForm.{cut_set, image_made, later}
+use Rattle.vss_model.proofs.StateForm.{cut_set, image_made}
 use Rattle.vss_model.specs.Cut.{cut_if, IsCutAt}
 use Rattle.vss_model.specs.Changes.{Names}
 use Rattle.vss_model.proofs.ByEvent.{some_same}
 use Rattle.vss_model.proofs.Changes.{CourseCall, Answers, Steps, Times, Gathers, Prepares, Snapshots, Completes, Disables, Fails, Releases, called, IsDue}
 use Rattle.vss_model.proofs.Changes.{Stands, Comes, is_end, by_changes}
-use Rattle.vss_model.proofs.FewerImages.{gives_image, no_image_given, fewer_apply}
-use Rattle.vss_model.proofs.Rows.{none_runs, number-cut}
-use Rattle.vss_model.proofs.Appending.{state-append}
+use Rattle.vss_model.proofs.CutStep.{gives_image, no_image_given, fewer_apply, both, working_at_cut, working_at_commit, has_set, by_cut, by_image, is_commit}
+use Rattle.vss_model.proofs.CutStep.{IsAtCommit, at_commit, SaysStep, says_stepped}
+use Rattle.vss_model.proofs.Rows.{found_passes, none_runs, number-cut}
+use Rattle.vss_model.proofs.Appending.{state-append, by_last}
+use Rattle.vss_model.proofs.HeldOfSet.{cut-append, or_cut, is_cut_made, IsOf, IsSameAgenda, Follows, Tied, tied, goes_answered, goes_stepped, goes_timed}
+use Rattle.vss_model.proofs.HeldOfSet.{find-row_cut}
 use Rattle.vss_model.proofs.Orderly.{find-map, find-settled_over, find-settled_running, true_not_false}
 use Rattle.vss_model.proofs.OrderlyActs.{EndsIn, Moves, moves_answered, moves_stepped, moves_timed, orderly}
-use Rattle.vss_model.proofs.HeldOfSet.{IsOf, IsSameAgenda, Follows, Tied, tied, goes_answered, goes_stepped, goes_timed, find-row_cut}
-use Rattle.vss_model.proofs.HeldWrites.{rewrites, same_writes, held_unwritten}
-use Rattle.vss_model.proofs.CutLog.{is_cut_made}
+use Rattle.vss_model.proofs.Volumes.{rewrites, same_writes, held_unwritten, at, at_change, each_map, each_change, each_gone}
 use Rattle.vss_model.proofs.AtCut.{IsAtCut, CutsNow, cuts, cut_is_open, all_said, tied_to}
-use Rattle.vss_model.proofs.CutStep.{both, working_at_cut, working_at_commit, has_set, by_cut, by_image, is_commit, IsAtCommit, at_commit, SaysStep}
-use Rattle.vss_model.proofs.CutStep.{says_stepped}
-use Rattle.vss_model.proofs.LogRule.{Running}
-use Rattle.vss_model.proofs.Spoken.{HoldsFirst, held_first, CommitsFirst, commits_first}
-use Rattle.vss_model.proofs.SaidBefore.{SaidIn, MakesNone, said_called}
-use Rattle.vss_model.proofs.Volumes.{at, at_change, each_map, each_change, each_gone}
+use Rattle.vss_model.proofs.Rules.{Running}
+use Rattle.vss_model.proofs.Spoken.{HoldsFirst, held_first, CommitsFirst, commits_first, SaidIn, MakesNone, said_called}
 use Rattle.vss_model.proofs.CutHistory.{Above, Shown, no_greater, Known, writes_at, ShownIn, IsShown, AllShown, shown-filter, shown-reverted}
 use Rattle.vss_model.proofs.CutHistory.{shown-reverted_in_part, shown-dropped, shown-written, shown-cut, shown_along, point_shown, append_none}
 
@@ -306,11 +303,7 @@ with_volumes m k c x e f shown h = record {
 }
 
 pub row_number : (n : ℕ) (rows : List SetRow) (r : SetRow) → find (λ q. q.number == n) rows ≡ Some r → r.number ≡ n
-row_number n [] r e = absurd cc
-row_number n (q ∷ rows) r e = head_if (q.number == n) refl e (row_number n rows r) where
-  head_if : (b : Bool) → (q.number == n) ≡ b → (if b then Some q else find (λ q. q.number == n) rows) ≡ Some r → (find (λ q. q.number == n) rows ≡ Some r → r.number ≡ n) → r.number ≡ n
-  head_if true f g ih = let same : q ≡ r = cc in subst (λ x. x.number ≡ n) same (eqb-true q.number n f)
-  head_if false f g ih = ih g
+row_number n rows r e = eqb-true r.number n (found_passes (λ (q : SetRow). q.number == n) rows r e)
 
 pub kept_point : (n : ℕ) (o : Option SetRow) (p : Option ℕ) (x : Kept) → ((r : SetRow) → o ≡ Some r → r.number ≡ n) → kept_of o p ≡ Some x → (x.row.number ≡ n) × (p ≡ Some x.point)
 kept_point n o p x number e = grind arith
@@ -404,14 +397,13 @@ not_cut_now k st act n e = or_none (k n) ∙ ap (λ b. or_else (k n) (now_if b s
 pub newest_number : (m : ℕ) (rows : List SetRow) (r : SetRow) → NumberedFrom m rows → OverButNewest rows → find (λ q. is_running q.result) rows ≡ Some r → r.number + 1 ≡ m + length rows
 newest_number m [] r h o e = absurd cc
 newest_number m (q ∷ []) r h o e = grind (arith, common_steps)
-newest_number m (q ∷ p ∷ rows) r h o e =
-    newest_number (m + 1) (p ∷ rows) r h.1 o.1 (rest_if (is_running q.result) o.0 e) ∙ shift m (length (p ∷ rows)) where
-      rest_if : (b : Bool) → b ≡ false → (if b then Some q else find (λ x. is_running x.result) (p ∷ rows)) ≡ Some r → find (λ x. is_running x.result) (p ∷ rows) ≡ Some r
-      rest_if true f g = absurd cc
-      rest_if false f g = g
+newest_number m (q ∷ p ∷ rows) r h o e = newest_number (m + 1) (p ∷ rows) r h.1 o.1 (rest_if (is_running q.result) o.0 e) ∙ shift m (length (p ∷ rows)) where
+  rest_if : (b : Bool) → b ≡ false → (if b then Some q else find (λ x. is_running x.result) (p ∷ rows)) ≡ Some r → find (λ x. is_running x.result) (p ∷ rows) ≡ Some r
+  rest_if true f g = absurd cc
+  rest_if false f g = g
 
-      shift : (a b : ℕ) → (a + 1) + b ≡ a + suc b
-      shift a b = omega arith
+  shift : (a b : ℕ) → (a + 1) + b ≡ a + suc b
+  shift a b = omega arith
 
 -- ## the state after the Cut step
 
@@ -646,34 +638,18 @@ module _ (s : Plan) (past : List Act) (act : Act) (k : Known) (h : IsCut always 
 
 -- ## every list of acts
 
-abbrev pub known_from : Plan → Known → State → List Act → Known
-known_from s k st [] = k
-known_from s k st (act ∷ acts) = known_from s (next_known k st act) (after s st act) acts
-
-cut_fold : (s : Plan) (past : List Act) (k : Known) (acts : List Act) → IsCut always k (state s past) → IsCut always (known_from s k (state s past) acts) (fold (after s) (state s past) acts)
-cut_fold s past k [] h = h
-cut_fold s past k (act ∷ acts) h =
-    let l = next_known k (state s past) act in
-    subst (λ st. IsCut always (known_from s l st acts) (fold (after s) st acts)) (state-append s past act)
-    (cut_fold s (past ++ act ∷ []) l acts (subst (IsCut always l) (sym (state-append s past act)) (on_act s past act k h)))
-
 abbrev pub state_then : Plan → Option (List Act) → Option State
 state_then s o = option_map (state s) o
-
-known_step : (s : Plan) (o : Option State) (b : Bool) (past : List Act) (later : Option (List Act)) → or_else (or_else o (now_if b (state s past))) (state_then s later) ≡ or_else o (state_then s (cut_if b past later))
-known_step s o b past later = grind arith
-
-known_is : (s : Plan) (past : List Act) (k : Known) (n : ℕ) (acts : List Act) → known_from s k (state s past) acts n ≡ or_else (k n) (state_then s (cut_from s n past (state s past) acts))
-known_is s past k n [] = or_none (k n)
-known_is s past k n (act ∷ acts) =
-    let st = state s past in
-    let l = next_known k st act in
-    subst (λ x. known_from s l x acts n ≡ or_else (l n) (state_then s (cut_from s n (past ++ act ∷ []) x acts))) (state-append s past act) (known_is s (past ++ act ∷ []) l n acts)
-    ∙ known_step s (k n) (is_cut_of n st act) past (cut_from s n (past ++ act ∷ []) (after s st act) acts)
 
 -- the state at each cut
 abbrev pub known : Plan → List Act → Known
 known s acts n = state_then s (cut s n acts)
+
+known_step : (s : Plan) (past : List Act) (o : Option (List Act)) (b : Bool) → or_else (state_then s o) (now_if b (state s past)) ≡ state_then s (or_cut o (cut_if b past None))
+known_step s past o b = grind arith
+
+known_next : (s : Plan) (past : List Act) (act : Act) (n : ℕ) → next_known (known s past) (state s past) act n ≡ known s (past ++ act ∷ []) n
+known_next s past act n = known_step s past (cut s n past) (is_cut_of n (state s past) act) ∙ ap (state_then s) (sym (cut-append s n past act))
 
 none_shown : (rows : List VolumeRow) (v : ℕ) → at (map (λ _. fresh) rows) v ≡ fresh
 none_shown [] v = refl
@@ -681,9 +657,11 @@ none_shown (r ∷ rows) zero = refl
 none_shown (r ∷ rows) (suc v) = none_shown rows v
 
 pub cut_all : (s : Plan) (acts : List Act) → IsCut always (known s acts) (state s acts)
-cut_all s acts =
-    know_more _ (known s acts) (state s acts) (λ n. known_is s [] (λ m. None) n acts)
-    (cut_fold s [] (λ m. None) acts (record { shown = λ v. subst (IsShown (λ m. None) v) (sym (none_shown s.volumes v)) tt; progress = inl tt; known = λ e. absurd e; fresh = λ n e. refl }))
+cut_all s acts = by_last (λ past. IsCut always (known s past) (state s past))
+    (λ past act h.
+    subst (IsCut always (known s (past ++ act ∷ []))) (sym (state-append s past act))
+    (know_more _ (known s (past ++ act ∷ [])) (after s (state s past) act) (known_next s past act) (on_act s past act (known s past) h)))
+    (record { shown = λ v. subst (IsShown (λ m. None) v) (sym (none_shown s.volumes v)) tt; progress = inl tt; known = λ e. absurd e; fresh = λ n e. refl }) acts
 
 -- where the Cut step is the next one, the set in progress was not cut yet
 pub not_cut_yet : (s : Plan) (acts : List Act) (r : SetRow) → CutsNow (state s acts) → in_progress (state s acts) ≡ Some r → cut s r.number acts ≡ None
@@ -766,18 +744,13 @@ no_image_yet s acts r a v e f g = by_point (point_in r.number (history_of (state
 
 -- ## where a set was cut
 
-cut_at_if : (b : Bool) (s : Plan) (n : ℕ) (past before : List Act) (act : Act) (later : Option (List Act)) → is_cut_of n (state s past) act ≡ b → cut_if b past later ≡ Some before
-    → (later ≡ Some before → IsCutAt s n before) → IsCutAt s n before
-cut_at_if b s n past before act later e f ih = grind (arith, both)
-
-cut_at_from : (s : Plan) (n : ℕ) (past before : List Act) (acts : List Act) → cut_from s n past (state s past) acts ≡ Some before → IsCutAt s n before
-cut_at_from s n past before [] e = absurd cc
-cut_at_from s n past before (act ∷ acts) e =
-    cut_at_if (is_cut_of n (state s past) act) s n past before act _ refl e
-    (λ f. cut_at_from s n (past ++ act ∷ []) before acts (subst (λ x. cut_from s n (past ++ act ∷ []) x acts ≡ Some before) (sym (state-append s past act)) f))
+cut_at_if : (s : Plan) (n : ℕ) (past before : List Act) (act : Act) (o : Option (List Act)) (b : Bool) → is_cut_of n (state s past) act ≡ b → or_cut o (cut_if b past None) ≡ Some before
+    → (o ≡ Some before → IsCutAt s n before) → IsCutAt s n before
+cut_at_if s n past before act o b e f ih = grind (arith, both)
 
 pub cut_is_at : (s : Plan) (n : ℕ) (acts before : List Act) → cut s n acts ≡ Some before → IsCutAt s n before
-cut_is_at s n acts before e = cut_at_from s n [] before acts e
+cut_is_at s n acts before e = by_last (λ past. cut s n past ≡ Some before → IsCutAt s n before)
+    (λ past act h f. cut_at_if s n past before act (cut s n past) (is_cut_of n (state s past) act) refl (sym (cut-append s n past act) ∙ f) h) (λ f. absurd cc) acts e
 
 -- ## images in time
 

@@ -122,8 +122,7 @@ IsOther n (Some r) = (r.number == n) ≡ false
 -- every set but the one in progress stays live
 live_fails_at : (b : Bool) (p : SetOutcome) (r : SetRow) (rows : List SetRow) (n : ℕ) → is_running r.result ≡ b → OverButNewest (r ∷ rows)
     → IsOther n (if b then Some r else find (λ q. is_running q.result) rows)
-    → (IsOther n (find (λ q. is_running q.result) rows) → is_live rows n ≡ true → is_live (map (row_settled p) rows) n ≡ true)
-    → is_live (r ∷ rows) n ≡ true
+    → (IsOther n (find (λ q. is_running q.result) rows) → is_live rows n ≡ true → is_live (map (row_settled p) rows) n ≡ true) → is_live (r ∷ rows) n ≡ true
     → (((if b then record r { result = p } else r).number == n && not (has_failed (if b then record r { result = p } else r).result)) || is_live (map (row_settled p) rows) n) ≡ true
 live_fails_at b p r rows n e o other ih h = grind (arith, common_steps, or_both, true_not_false)
 
@@ -140,8 +139,7 @@ other_way a b f = grind arith
 
 are_live_without : (p : SetOutcome) (rows : List SetRow) (q : SetRow) → OverButNewest rows → find (λ r. is_running r.result) rows ≡ Some q → (images : List Image) → AreLive rows images → AreLive (map (row_settled p) rows) (without_set q.number images)
 are_live_without p rows q o e [] h = tt
-are_live_without p rows q o e (i ∷ images) h =
-    let ih = are_live_without p rows q o e images h.1 in grind (arith, common_steps, live-fails, other_way)
+are_live_without p rows q o e (i ∷ images) h = let ih = are_live_without p rows q o e images h.1 in grind (arith, common_steps, live-fails, other_way)
 
 all_live_without : (p : SetOutcome) (rows : List SetRow) (q : SetRow) → OverButNewest rows → find (λ r. is_running r.result) rows ≡ Some q → (hs : List History) → AllLive rows hs → AllLive (map (row_settled p) rows) (map (dropped q.number) hs)
 all_live_without p rows q o e [] h = tt

@@ -1,27 +1,26 @@
 -- Every act keeps the state orderly.
-use Rattle.std.proofs.Common.{◌≡◌, ℕ, ◌+◌, ◌==◌, List, [], ◌∷◌, Option, Some, None, refl, Bool, true, false, map, ap, sym, subst, find, fold, inl, inr, length}
-use Rattle.std.proofs.Common.{arith}
+use Rattle.std.proofs.Common.{◌≡◌, ℕ, ◌+◌, ◌==◌, List, [], ◌∷◌, Option, Some, None, refl, Bool, true, false, map, ap, sym, subst, find, inl, inr, length, arith}
 use Rattle.std.specs.Prelude.{option_map, is_some, ◌⊎◌, not, if◌then◌else◌}
 use Rattle.vss_model.proofs.Terms.{and_parts, common_steps, Context, Backup, AppRollback, NasRollback, Order, VssResult, AsyncCancelled, SetOutcome, Running}
 use Rattle.vss_model.proofs.Terms.{Failed as FailedSet, Said, Ok, Mark, History, fresh, dropped, after_set, Placed, gone_up_to, Group, Cut, Commit, Kind}
 use Rattle.vss_model.proofs.Terms.{Gather, Prepare, Snapshot, Complete, Member, Agenda, groups_left, left, all_say, is_done, is_working, next_member, Course}
 use Rattle.vss_model.proofs.Terms.{posted, failed as course_failed, outcome_after, settled_if, settled, begun, told, answered as course_answered, worked}
 use Rattle.vss_model.proofs.Terms.{stepped as course_stepped, timed as course_timed, released, Stage, Opened, Gathered, Started, Prepared, Done, Session}
-use Rattle.vss_model.proofs.Terms.{has_writers, makes_set, stage_after, agenda_ended, set_failed, is_stage, VolumeRow, Plan, State, SetRow, start, is_running}
-use Rattle.vss_model.proofs.Terms.{in_progress, row_changed, left_now, Ending, NothingEnds, AgendaEnds, SetFails, ending, row_settled, runs, has_no_volume}
-use Rattle.vss_model.proofs.Terms.{new_set, with_volume, with_cut, row_cut, Act, after, state, LetsGo, is_early, IsOfStage, IsOfSession, snapshot_stage}
-use Rattle.vss_model.proofs.Terms.{WaitsFor, IsAgendaOf, has_failed, AreLive, AllLive, IsOrderly, IsKeptFrom, from_answered, from_stepped, from_timed}
+use Rattle.vss_model.proofs.Terms.{has_writers, makes_set, stage_after, agenda_ended, set_failed, is_stage, VolumeRow, Plan, State, SetRow, is_running}
+use Rattle.vss_model.proofs.Terms.{in_progress, row_changed, left_now, Ending, NothingEnds, AgendaEnds, SetFails, ending, row_settled, runs, new_set}
+use Rattle.vss_model.proofs.Terms.{with_volume, with_cut, row_cut, Act, state, LetsGo, is_early, IsOfStage, IsOfSession, snapshot_stage, WaitsFor, IsAgendaOf}
+use Rattle.vss_model.proofs.Terms.{has_failed, AreLive, AllLive, IsOrderly, IsKeptFrom, from_answered, from_stepped, from_timed}
 use Rattle.vss_names.specs.declared.set_outcome.SetOutcome.TheVariants.{Complete as CompleteSet}
 use Rattle.requestor.specs.declared.session_call.SessionCall.TheVariants as call
 use Rattle.write_history.specs.History.{cut as history_cut}
 use Rattle.vss_model.proofs.StateForm.{concluded, followed, failed_in, failed, begin_in, start_set, change_set, images_released, closed, answered, cut_set}
 use Rattle.vss_model.proofs.StateForm.{image_made, step_made, stepped_as, stepped, ticked, later, IsKeptByChanges, IsKeptByWrites}
 use Rattle.vss_model.proofs.Rows.{none_runs}
-use Rattle.vss_model.proofs.Rule.{on_after}
+use Rattle.vss_model.proofs.Rules.{on_after}
 use Rattle.vss_model.proofs.Orderly.{IsSameRow, numbered-map, newest-map, find-map, live-map, all_live_along, live-filter, live-append, all_live-map}
 use Rattle.vss_model.proofs.Orderly.{all_live-change_at, numbered-settled, newest-settled, find-settled_over, find-settled_running, live-settled}
 use Rattle.vss_model.proofs.Orderly.{all_live-fails, numbered-append, newest-append, find-append_new, all_live-append, live_found, true_not_false}
-use Rattle.vss_model.proofs.ByEvent.{by_if}
+use Rattle.vss_model.proofs.Appending.{by_acts}
 
 -- ## what calls do to the agenda and the outcome
 
@@ -271,8 +270,7 @@ pub same_changed : (n : ℕ) (f : SetRow → SetRow) → ((r : SetRow) → (f r)
 same_changed n f number result = grind arith
 
 orderly_cut : (r : SetRow) (st : State) → in_progress st ≡ Some r → IsOrderly st → IsOrderly (cut_set (Some r) st)
-orderly_cut r st e h =
-    rows_same (row_cut r.number st.clock) (same_changed r.number (with_cut st.clock) (λ x. refl) (λ x. refl)) st.volumes st h.live h
+orderly_cut r st e h = rows_same (row_cut r.number st.clock) (same_changed r.number (with_cut st.clock) (λ x. refl) (λ x. refl)) st.volumes st h.live h
 
 on_cut : (o : Option SetRow) (c : Course) (st : State) → in_progress st ≡ o → MovesOn st.course c → IsOrderly st → IsOrderly (followed (runs st) c (cut_set o st))
 on_cut None c st e m h = orderly_followed c st m h
@@ -378,14 +376,10 @@ kept_by_changes = record {
   ticks = on_ticks;
   fails = λ why st h. on_failed_in (in_progress st) why st refl h;
   gathers = λ s q st g h. begun_well Gather _ [] st.clock _ st q refl g.stands (is_opened q.stage (and_parts (is_stage q.stage Opened) (has_writers q.context) g.allowed).0) h;
-  prepares = λ s q st g h. by_if (λ r. IsOrderly r.1) (has_no_volume (in_progress st)) _ _ h
-      (begun_well Prepare _ [] st.clock _ st q refl g.stands (
-        is_started q.stage
-            (and_parts (is_stage q.stage Started) (has_writers q.context) g.allowed).0,
-        (and_parts (is_stage q.stage Started) (has_writers q.context) g.allowed).1,
-      )
-      h);
-  snapshots = λ q st g h. by_if (λ r. IsOrderly r.1) (has_no_volume (in_progress st)) _ _ h (begun_well Snapshot st.course.members _ st.clock st.course st q refl g.stands (snapshot_allowed (has_writers q.context) q.stage g.allowed) h);
+  prepares = λ s q st g f h.
+      let may = and_parts (is_stage q.stage Started) (has_writers q.context) g.allowed in
+      begun_well Prepare _ [] st.clock _ st q refl g.stands (is_started q.stage may.0, may.1) h;
+  snapshots = λ q st g f h. begun_well Snapshot st.course.members _ st.clock st.course st q refl g.stands (snapshot_allowed (has_writers q.context) q.stage g.allowed) h;
   completes = λ q st g h. begun_well Complete _ [] st.clock _ st q refl g.stands (is_done_stage q.stage (and_parts (is_stage q.stage Done) (has_writers q.context) g.allowed).0) h;
   clears = λ s v b st h. volumes_orderly _ st (live_gone _ st.sets _ st.volumes h.live) h;
   deletes_set = λ n st h. volumes_orderly _ st (all_live-map (dropped n) st.sets (λ x g. live_dropped n st.sets x g) st.volumes h.live) h;
@@ -401,13 +395,10 @@ kept_by_changes = record {
 pub kept_by_writes : (st : State) → IsKeptByWrites IsOrderly st
 kept_by_writes st = grind (arith, common_steps, volumes_orderly, all_live-change_at, live-filter)
 
-orderly_fold : (s : Plan) (st : State) (acts : List Act) → IsOrderly st → IsOrderly (fold (after s) st acts)
-orderly_fold s st [] h = h
-orderly_fold s st (act ∷ acts) h = orderly_fold s (after s st act) acts (on_after IsOrderly kept_by_changes s st act (kept_by_writes st) h)
-
 fresh_live : (rows : List SetRow) (vs : List VolumeRow) → AllLive rows (map (λ _. fresh) vs)
 fresh_live rows [] = tt
 fresh_live rows (v ∷ vs) = (tt, fresh_live rows vs)
 
 pub orderly : (s : Plan) (acts : List Act) → IsOrderly (state s acts)
-orderly s acts = orderly_fold s (start s) acts (record { numbered = tt; newest = tt; session = refl; agenda = tt; live = fresh_live [] s.volumes })
+orderly s acts = by_acts IsOrderly s (λ past act h. on_after IsOrderly kept_by_changes s (state s past) act (kept_by_writes (state s past)) h)
+    (record { numbered = tt; newest = tt; session = refl; agenda = tt; live = fresh_live [] s.volumes }) acts

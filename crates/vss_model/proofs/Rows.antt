@@ -7,12 +7,15 @@ use Rattle.vss_model.specs.State.{is_complete}
 use Rattle.vss_model.proofs.ByEvent.{some_same}
 use Rattle.vss_model.proofs.Orderly.{number-settled_if}
 
-pub running_found : (rows : List SetRow) (r : SetRow) → find (λ q. is_running q.result) rows ≡ Some r → is_running r.result ≡ true
-running_found [] r e = absurd cc
-running_found (q ∷ rows) r e = by_head (is_running q.result) refl e (running_found rows r) where
-  by_head : (b : Bool) → is_running q.result ≡ b → (if b then Some q else find (λ x. is_running x.result) rows) ≡ Some r → (find (λ x. is_running x.result) rows ≡ Some r → is_running r.result ≡ true) → is_running r.result ≡ true
-  by_head true f e ih = subst (λ x. is_running x.result ≡ true) (some_same q r e) f
+pub found_passes : {X : Type 0} (test : X → Bool) (xs : List X) (x : X) → find test xs ≡ Some x → test x ≡ true
+found_passes test [] x e = absurd cc
+found_passes test (y ∷ xs) x e = by_head (test y) refl e (found_passes test xs x) where
+  by_head : (b : Bool) → test y ≡ b → (if b then Some y else find test xs) ≡ Some x → (find test xs ≡ Some x → test x ≡ true) → test x ≡ true
+  by_head true f e ih = subst (λ z. test z ≡ true) (some_same y x e) f
   by_head false f e ih = ih e
+
+pub running_found : (rows : List SetRow) (r : SetRow) → find (λ q. is_running q.result) rows ≡ Some r → is_running r.result ≡ true
+running_found rows r e = found_passes (λ (q : SetRow). is_running q.result) rows r e
 
 pub found_above : (m : ℕ) (rows : List SetRow) (r : SetRow) → NumberedFrom m rows → find (λ q. is_running q.result) rows ≡ Some r → m ≤ r.number
 found_above m [] r h e = absurd cc

@@ -1,16 +1,21 @@
--- What the log of a running agenda says of who spoke: only volumes of the agenda were held, only its members froze, once the Cut step
--- is made the Hold group is closed, and a volume is released after its Commit step.
-use Rattle.std.proofs.Common.{◌≡◌, ℕ, ◌==◌, List, [], ◌∷◌, ◌++◌, Option, None, refl, Bool, true, false, map, filter, sym, subst, ◌∙◌, arith}
+-- What the log of a running agenda says of who spoke: while the Hold group is open, and what of a provider's step was said before.
+use Rattle.std.proofs.Common.{◌≡◌, ℕ, ◌==◌, List, [], ◌∷◌, ◌++◌, Option, None, refl, Bool, true, false, map, filter, sym, subst, ◌∙◌, arith, Some, ap}
 use Rattle.std.specs.Prelude.{◌&&◌, ◌||◌, not, if◌then◌else◌}
+use Rattle.set_agenda.proofs.Closings.{unless}
+use Rattle.vss_model.proofs.AtCut.{all_said, release_not}
+use Rattle.vss_model.proofs.Changes.{CourseCall, Answers, Steps, Times, Gathers, Prepares, Snapshots, Completes, Disables, called, IsDue, Stands}
+use Rattle.vss_model.proofs.CourseCalls.{Says, Call, call_answered, call_stepped, call_timed}
+use Rattle.vss_model.proofs.HeldOfSet.{is_cut_made, said_stays, either_way, SoundLog, sound}
+use Rattle.vss_model.proofs.Orderly.{true_not_false}
+use Rattle.vss_model.proofs.Rules.{IsKeptInLog, Running, in_log}
 use Rattle.vss_model.proofs.Terms.{list_any-append, and_parts, eqb-true, or_right, Level, Said, is_ok, Group, Hold, Cut, Commit, Release, Member, Place, Agenda}
 use Rattle.vss_model.proofs.Terms.{Entry, Open, plain, places, group_code, level_code, same_place, is_freeze, has_said, has_frozen, members_of, waited_for}
 use Rattle.vss_model.proofs.Terms.{with_group, left_from, groups_left, open_group, open_place, is_among, waits_now, at_place, all_say, is_member, Plan, Act}
-use Rattle.vss_model.proofs.Terms.{state, is_cut_group}
-use Rattle.set_agenda.proofs.Closings.{unless}
-use Rattle.vss_model.proofs.Orderly.{true_not_false}
-use Rattle.vss_model.proofs.LogRule.{IsKeptInLog, Running, in_log}
-use Rattle.vss_model.proofs.CutLog.{is_cut_made, said_stays, either_way}
-use Rattle.vss_model.proofs.AtCut.{all_said}
+use Rattle.vss_model.proofs.Terms.{state, is_cut_group, common_steps, SetOutcome, Kind, Gather, Prepare, Snapshot, Complete, left, is_orders, is_working}
+use Rattle.vss_model.proofs.Terms.{Course, posted, settled, begun, failed as course_failed, released, Event, State, left_now, is_provider, is_hold}
+
+-- ## What the log of a running agenda says of who spoke: only volumes of the agenda were held, only its members froze, once the Cut step
+-- is made the Hold group is closed, and a volume is released after its Commit step.
 
 -- ## what is said at a place
 
@@ -171,10 +176,7 @@ holds_first_more said now ws a h e =
     by_cases false false f g e = absurd cc
 
 holds_first : IsKeptInLog HoldsFirst
-holds_first = record {
-  begins = λ k ms vs now e. absurd cc;
-  says = λ said now ws a waited mild h. holds_first_more said now ws a h;
-}
+holds_first = record { begins = λ k ms vs now e. absurd cc; says = λ said now ws a waited mild h. holds_first_more said now ws a h }
 
 -- ## the Commit group is closed before a Release step
 
@@ -213,3 +215,77 @@ commits_first s acts = in_log CommitsFirst commits_before s acts
 
 pub held_first : (s : Plan) (acts : List Act) → Running HoldsFirst (state s acts).course.agenda
 held_first s acts = in_log HoldsFirst holds_first s acts
+
+-- ## what the log of a running agenda says of a provider's step was said before, unless the act makes that step
+
+abbrev pub SaidIn : Place → ℕ → Option Agenda → Type 0
+SaidIn p who None = ⊥
+SaidIn p who (Some a) = has_said a.log p who ≡ true
+
+module _ (g : Group) (own : is_orders g ≡ false) where
+  -- writers say nothing there; the provider does where it is open
+  abbrev pub Elsewhere : Bool → List Open → Type 0
+  Elsewhere true os = Unit {0}
+  Elsewhere false os = same_place (open_place os) (plain g) ≡ false
+
+  pub said_back : (said : Said) (now who : ℕ) (ws : List ℕ) (a : Agenda) → same_place (open_place (groups_left a)) (plain g) ≡ false
+      → has_said (all_say said now ws a).log (plain g) who ≡ true → has_said a.log (plain g) who ≡ true
+  said_back said now who ws a e f = grind (arith, list_any-append, and_parts, new_said, true_not_false)
+
+  of_writers : (h k : Group) (l : Option Level) → is_orders h ≡ true → is_orders k ≡ false → same_place (record { group = h; level = l }) (plain k) ≡ false
+  of_writers h k l e f = grind arith
+
+  pub says_elsewhere : (writers : Bool) (a : Agenda) (o : SetOutcome) (b : Option Agenda) (p : SetOutcome) → Elsewhere writers (groups_left a) → Says writers a o b p
+      → same_place (open_place (groups_left a)) (plain g) ≡ false
+  says_elsewhere true a o b p e c = of_writers (open_place (groups_left a)).group g (open_place (groups_left a)).level c.by own
+  says_elsewhere false a o b p e c = e
+
+  pub still_said : (writers : Bool) (who : ℕ) (a : Option Agenda) (o : SetOutcome) (b : Option Agenda) (p : SetOutcome)
+      → ((x : Agenda) → a ≡ Some x → Elsewhere writers (groups_left x)) → Call writers a o b p → SaidIn (plain g) who b → SaidIn (plain g) who a
+  still_said writers who a o b p n c h = grind (arith, common_steps, said_back, says_elsewhere)
+
+  pub begun_unsaid : (who : ℕ) (k : Kind) (ms : List Member) (vs : List ℕ) (now : ℕ) (c : Course) → SaidIn (plain g) who (begun k ms vs now c).agenda → ⊥
+  unfolding begun posted settled
+  begun_unsaid who k ms vs now c m = grind (arith, common_steps)
+
+  -- the provider makes no step there
+  abbrev pub MakesNone : Event → State → Type 0
+  MakesNone e st = is_provider e ≡ true → same_place (open_place (left_now st)) (plain g) ≡ false
+
+  none_at : (e : Event) (st : State) (c : Course) (a : Agenda) → MakesNone e st → is_provider e ≡ true → c ≡ st.course → c.agenda ≡ Some a
+      → same_place (open_place (groups_left a)) (plain g) ≡ false
+  none_at e st c a none f h i = ap (λ (o : Option Agenda). same_place (open_place (left o)) (plain g)) (sym i ∙ ap (λ (d : Course). d.agenda) h) ∙ none f
+
+  pub said_called : (s : Plan) (e : Event) (st x : State) (call : CourseCall) (who : ℕ) → MakesNone e st → IsDue st x.course call → Stands e st x call
+      → SaidIn (plain g) who (called s st call x.course).agenda → SaidIn (plain g) who x.course.agenda
+  unfolding course_failed released
+  said_called s e st x (Answers w said) who none i j h = still_said true who x.course.agenda x.course.outcome _ _ (λ y k. tt) (call_answered w said st.clock x.course) h
+  said_called s e st x (Steps ok) who none i j h =
+      still_said false who x.course.agenda x.course.outcome _ _ (λ y k. none_at e st x.course y none j i.1 k)
+      (call_stepped ok st.clock x.course (subst (λ c. is_working (left c.agenda) ≡ true) (sym i.1) i.0)) h
+  said_called s e st x (Times now) who none i j h = still_said true who x.course.agenda x.course.outcome _ _ (λ y k. tt) (call_timed now x.course) h
+  said_called s e st x Gathers who none i j h = absurd (begun_unsaid who Gather _ [] st.clock _ h)
+  said_called s e st x (Prepares q) who none i j h = absurd (begun_unsaid who Prepare _ [] st.clock _ h)
+  said_called s e st x Snapshots who none i j h = absurd (begun_unsaid who Snapshot _ _ st.clock _ h)
+  said_called s e st x Completes who none i j h = absurd (begun_unsaid who Complete _ [] st.clock _ h)
+  said_called s e st x (Disables w) who none i j h = h
+  said_called s e st x _ who none i j h = absurd h
+
+-- ## While the Hold group is open the Cut step is not made, and nothing is said of a Release.
+
+-- the Hold group is open
+abbrev opens_hold : List Open → Bool
+opens_hold [] = false
+opens_hold (o ∷ os) = is_hold o.place.group
+
+hold_opens : (os : List Open) → open_group os ≡ Some Hold → opens_hold os ≡ true
+hold_opens os e = grind arith
+
+not_made : (b : Bool) (a : Agenda) → is_cut_made a.log ≡ b → HoldsFirst a → opens_hold (groups_left a) ≡ true → b ≡ false
+not_made b a e h o = grind arith
+
+pub uncut_at_hold : (s : Plan) (acts : List Act) (a : Agenda) → open_group (left_now (state s acts)) ≡ Some Hold → (state s acts).course.agenda ≡ Some a → has_said a.log (plain Cut) 0 ≡ false
+uncut_at_hold s acts a e f = grind (arith, not_made, held_first, hold_opens)
+
+pub unreleased_at_hold : (s : Plan) (acts : List Act) (a : Agenda) (v : ℕ) → open_group (left_now (state s acts)) ≡ Some Hold → (state s acts).course.agenda ≡ Some a → has_said a.log (plain Release) v ≡ false
+unreleased_at_hold s acts a v e f = release_not a.log v (subst SoundLog f (sound s acts)) (uncut_at_hold s acts a e f)

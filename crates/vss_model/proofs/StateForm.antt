@@ -39,10 +39,7 @@ images_dropped (Some r) hs = map (dropped r.number) hs
 
 abbrev pub concluded : Ending → State → State
 concluded NothingEnds st = st
-concluded AgendaEnds st = record st {
-  session = option_map agenda_ended st.session;
-  sets = map (row_settled st.course.outcome) st.sets;
-}
+concluded AgendaEnds st = record st { session = option_map agenda_ended st.session; sets = map (row_settled st.course.outcome) st.sets }
 concluded (SetFails why) st = record st {
   session = option_map (set_failed why) st.session;
   sets = map (row_settled st.course.outcome) st.sets;
@@ -166,9 +163,7 @@ prepare s q st =
     else pending (prepared (takers (length s.writers) (selected s q st)) st.clock st.course) st
 
 abbrev pub snapshot : State → Replied
-snapshot st =
-    if has_no_volume (in_progress st) then refused BadState st
-    else pending (snapshot_begun (volumes_of (in_progress st)) st.clock st.course) st
+snapshot st = if has_no_volume (in_progress st) then refused BadState st else pending (snapshot_begun (volumes_of (in_progress st)) st.clock st.course) st
 
 abbrev pub complete : State → Replied
 complete st = pending (completing st.clock st.course) st
@@ -184,12 +179,7 @@ images_released NasRollback set hs = hs
 
 -- the session is over
 unfoldable pub closed : Session → State → State
-closed q st = record st {
-  session = None;
-  explicit = [];
-  course = released st.course;
-  volumes = images_released q.context q.set st.volumes;
-}
+closed q st = record st { session = None; explicit = []; course = released st.course; volumes = images_released q.context q.set st.volumes }
 
 abbrev pub end_session : Session → State → Replied
 end_session q st = (Fine, closed q (failed AsyncCancelled st))
@@ -295,8 +285,10 @@ pub record IsKeptByChanges (P : State → Type 0) : Type 0 where
   pub ticks : (n : ℕ) (st : State) → P st → P (ticked n st)
   pub fails : (why : VssResult) (st : State) → P st → P (failed why st)
   pub gathers : (s : Plan) (q : Session) (st : State) → LetsGo call.Gather q st → P st → P (gather s st).1
-  pub prepares : (s : Plan) (q : Session) (st : State) → LetsGo call.Prepare q st → P st → P (prepare s q st).1
-  pub snapshots : (q : Session) (st : State) → LetsGo call.Snapshot q st → P st → P (snapshot st).1
+  pub prepares : (s : Plan) (q : Session) (st : State) → LetsGo call.Prepare q st → has_no_volume (in_progress st) ≡ false → P st
+      → P (followed true (prepared (takers (length s.writers) (selected s q st)) st.clock st.course) st)
+  pub snapshots : (q : Session) (st : State) → LetsGo call.Snapshot q st → has_no_volume (in_progress st) ≡ false → P st
+      → P (followed true (snapshot_begun (volumes_of (in_progress st)) st.clock st.course) st)
   pub completes : (q : Session) (st : State) → LetsGo call.Complete q st → P st → P (complete st).1
   -- images
   pub clears : (s : Plan) (v b : ℕ) (st : State) → P st → P (cleared s v b st)

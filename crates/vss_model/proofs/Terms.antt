@@ -1,5 +1,5 @@
 -- The words of the definitions and of what is below them that this crate's proofs share, from one place.
-pub use Rattle.block_data.specs.PayloadBytes.{payload_bytes}
+pub use Rattle.block_data.specs.BlockBytes.{payload_bytes}
 pub use Rattle.block_data.specs.declared.payload.Payload.TheVariants.{Fill, Stamp}
 pub use Rattle.component_doc.specs.Over.{is_ascending, is_selectable_of, meta_at, names_selectable}
 pub use Rattle.component_doc.specs.Selection.{IsNamedAlready, IsNotFound, IsNotSelectable, Names, Naming, Pair, found_in, found_of, has_pair, is_taker, naming}
@@ -22,8 +22,7 @@ pub use Rattle.scenario.specs.declared.op.Op.TheVariants.{Abort, Add, Await, Beg
 pub use Rattle.scenario.specs.declared.op.Op.TheVariants.{ImageDigest, Properties, Query, Read, Revert, Start, Status, Tick, WriteFill, WriteStamp}
 pub use Rattle.scenario.specs.declared.volume_row.VolumeRow.{VolumeRow}
 pub use Rattle.set_agenda.proofs.CourseRule.{IsAsked, IsKeptFrom, IsKeptInCourse, course_answered, course_begun, course_stepped, course_timed, from_answered}
-pub use Rattle.set_agenda.proofs.CourseRule.{from_begun, from_settled, from_stepped, from_timed}
-pub use Rattle.set_agenda.proofs.SpentLimits.{IsSpentHere, spent_here}
+pub use Rattle.set_agenda.proofs.CourseRule.{from_begun, from_settled, from_stepped, from_timed, IsSpentHere, spent_here}
 pub use Rattle.set_agenda.specs.Advance.{advance, unasked}
 pub use Rattle.set_agenda.specs.Agenda.{Agenda, Entry, Open, all_say, at_level, at_place, group_code, groups_left, has_frozen, has_said, has_thawed, is_among}
 pub use Rattle.set_agenda.specs.Agenda.{is_asking, is_at, is_done, is_freeze, is_orders, is_snapshot, is_thaw, is_working, left, left_from, level_code}
@@ -62,26 +61,24 @@ pub use Rattle.vss_model.specs.Changes.{drops, ends, event_changes, fails, goes_
 pub use Rattle.vss_model.specs.Changes.{session_calls, steps}
 pub use Rattle.vss_model.specs.Cut.{IsShownAt, cut, cut_from, is_cut_group, is_cut_of, is_provider, is_set}
 pub use Rattle.vss_model.specs.Effects.{ended_of, line_ticks, ticks_of}
-pub use Rattle.vss_model.specs.Ending.{AgendaEnds, Ending, NothingEnds, SetFails, ending, row_settled, runs}
+pub use Rattle.vss_model.specs.Steps.{AgendaEnds, Ending, NothingEnds, SetFails, ending, row_settled, runs, is_failed_step, is_flush, row_cut, with_cut}
 pub use Rattle.vss_model.specs.Facts.{AllLive, AreLive, IsAgendaOf, IsNewest, IsOfSession, IsOfStage, IsOrderly, NumberedFrom, OverButNewest, WaitsFor}
 pub use Rattle.vss_model.specs.Facts.{has_failed, holds_for, is_early, is_live, snapshot_stage}
-pub use Rattle.vss_model.specs.GoesOn.{CanGoOn, EndsSessions, most_moves}
+pub use Rattle.vss_model.specs.Turns.{CanGoOn, EndsSessions, most_moves, turns_left, turns_of_agenda, turns_of_lanes, turns_of_line, turns_of_lines, waiting}
 pub use Rattle.vss_model.specs.Headline.{IsFailed, IsFrozenForSet, IsHeldForSet, KeepsSet, LeavesNothing, MakesEachLineOnce, ReadsAsAtTheCut}
 pub use Rattle.vss_model.specs.Images.{block_reply, cleared, count_images, delete_image_reply, has_lost_image, image_reply, is_in_set, properties_reply}
 pub use Rattle.vss_model.specs.Images.{query_reply, read_reply, reply_of_mark, revert_refusal, revert_reply, set_loses_image}
 pub use Rattle.vss_model.specs.Laws.{IsKeptByChanges, IsKeptByWrites, LetsGo, RunsSnapshot}
-pub use Rattle.vss_model.specs.Replies.{is_fine, is_numbered, is_pending, is_pending_code, leaves_all}
-pub use Rattle.vss_model.specs.Reply.{Coded, Deleted, Faulted, FaultedAfter, Fine, Idled, NotSelectable, Numbered, Reply, StatusOf}
+pub use Rattle.vss_model.specs.Reply.{is_fine, is_numbered, is_pending, is_pending_code, leaves_all, Coded, Deleted, Faulted, FaultedAfter, Fine, Idled}
+pub use Rattle.vss_model.specs.Reply.{NotSelectable, Numbered, Reply, StatusOf}
 pub use Rattle.vss_model.specs.Sessions.{add_refusal, add_reply, await_reply, call_reply, component_reply, fine_unless, first_reply, has_failed_identify}
 pub use Rattle.vss_model.specs.Sessions.{has_no_volume, is_disabled, is_identify_failure, is_known, judged_reply, known_from, known_metas, most_images}
 pub use Rattle.vss_model.specs.Sessions.{most_volumes, naming_reply, new_number, new_set, selected, selected_in, session_reply, volumes_of, with_volume}
 pub use Rattle.vss_model.specs.State.{Kept, SetRow, State, has_image, history_in, history_of, in_progress, is_frozen, is_held, is_kept_set, is_running}
 pub use Rattle.vss_model.specs.State.{kept_image, kept_of, left_now, row_changed, row_of, start}
-pub use Rattle.vss_model.specs.Steps.{is_failed_step, is_flush, row_cut, with_cut}
 pub use Rattle.vss_model.specs.Trail.{Run, act_of, acts, acts_from, acts_if, after_event, allows, answer_event, begin, can_act, cursor, event_enabled, event_of}
 pub use Rattle.vss_model.specs.Trail.{faults, is_complete, is_fault, is_lane, is_legal, is_legal_from, is_legal_move, is_over, is_used_up, line_event, may_move}
 pub use Rattle.vss_model.specs.Trail.{moved, next_line, none_can_act, run, run_from, script_event}
-pub use Rattle.vss_model.specs.Turns.{turns_left, turns_of_agenda, turns_of_lanes, turns_of_line, turns_of_lines, waiting}
 pub use Rattle.vss_model.specs.declared.event.Event.{Event}
 pub use Rattle.vss_model.specs.declared.event.Event.TheVariants.{Idle, Line, Provider}
 pub use Rattle.vss_names.specs.declared.context.Context.{Context}
@@ -107,8 +104,7 @@ pub use Rattle.write_history.specs.declared.move_item.Move.{Move}
 pub use Rattle.writer_calls.specs.Script.{said_of}
 pub use Rattle.writer_calls.specs.declared.answer.Answer.{Answer}
 pub use Rattle.writer_meta.specs.Metadata.{Meta}
-pub use Rattle.writer_state.specs.WriterRow.{row_aborted, row_after, row_ended, row_gathered}
-pub use Rattle.writer_state.specs.WriterState.{is_ok}
+pub use Rattle.writer_state.specs.WriterState.{row_aborted, row_after, row_ended, row_gathered, is_ok}
 pub use Rattle.writer_state.specs.declared.said.Said.{Said}
 pub use Rattle.writer_state.specs.declared.said.Said.TheVariants.{Ok}
 pub use Rattle.writer_state.specs.declared.writer_row.WriterRow.{WriterRow}

@@ -7,7 +7,7 @@ use Rattle.vss_model.proofs.Terms.{Write, said_of, Said, Group, is_among, is_wor
 use Rattle.vss_model.proofs.Terms.{timed as course_timed, has_row_failed, Session, Op, Revert, DeleteSet, DeleteImage, Tick, Begin, Disable, Component, Start}
 use Rattle.vss_model.proofs.Terms.{Add, Abort, End, IsPlan, begins_agenda, agenda_lines, Plan, LaneLine, LanePlan, lines_in, lines_of, Event, Line, Provider}
 use Rattle.vss_model.proofs.Terms.{Idle as IdleEvent, State, SetRow, Kept, in_progress, left_now, Ending, ending, runs, takers, Order, is_disabled, selected}
-use Rattle.vss_model.proofs.Terms.{has_no_volume, volumes_of, Act, after, state, enabled, idle_now, order_of_writer, most_moves, Run, begin, is_lane, cursor}
+use Rattle.vss_model.proofs.Terms.{volumes_of, Act, after, state, enabled, idle_now, order_of_writer, most_moves, Run, begin, is_lane, cursor}
 use Rattle.vss_model.proofs.Terms.{next_line, line_event, script_event, event_of, act_of, after_event, moved, run_from, run, acts, event_enabled, is_legal_move}
 use Rattle.vss_model.proofs.Terms.{is_legal_from, is_legal, waiting, turns_of_agenda, turns_of_line, turns_of_lines, turns_of_lanes, turns_left}
 use Rattle.write_history.specs.declared.actor.Actor.TheVariants.{Idle}
@@ -16,12 +16,12 @@ use Rattle.scenario.specs.declared.op.Op.TheVariants.{Prepare, Snapshot}
 use Rattle.vss_model.proofs.StateForm.{concluded, followed, failed_in, failed, Replied, write, reverted_as, closed, end_session, answered, step_made}
 use Rattle.vss_model.proofs.StateForm.{stepped_as, stepped, ticked, later}
 use Rattle.vss_model.proofs.Appending.{state-append, run-append, state-run, is_legal-append}
-use Rattle.vss_model.proofs.ByEvent.{Covers, covered, by_if}
+use Rattle.vss_model.proofs.ByEvent.{Covers, covered}
 use Rattle.vss_model.proofs.Changes.{after_enabled}
 use Rattle.vss_model.proofs.Waiting.{idle_spends}
 use Rattle.vss_model.proofs.GoesOn.{cursor_more, cursor_same}
 use Rattle.vss_model.proofs.Turns.{waits_in, short_filter, less_stepped, less_answered, not_more_timed, less_timed, few_begun, none_released, none_failed}
-use Rattle.vss_model.proofs.FewTurns.{FewVolumes, short_members, few_in}
+use Rattle.vss_model.proofs.Turns.{FewVolumes, short_members, few_in}
 use Rattle.vss_model.proofs.Rows.{apart_back}
 use Rattle.vss_model.proofs.Headline.{zero_more}
 
@@ -92,7 +92,6 @@ turns_covered s acts p =
     let rows = few.writers.rows in
     let members = few.writers.members in
     let short = λ (test : ℕ → Bool). short_members test 0 st.course.rows in
-    let own = line_takes st st Prepare (omega arith) in
     record {
       stays = λ lane op mark told e c. line_takes st st op (omega arith);
       writes = λ lane op v w mark e f. line_takes st (write s v w mark st).1 op (few_write s v w mark st);
@@ -106,10 +105,10 @@ turns_covered s acts p =
       names = λ lane w full q explicit mark g e. line_takes st st (Component w full) (omega arith);
       starts = λ lane q mark g e. line_takes st st Start (omega arith);
       adds = λ lane v r q mark g e f. line_takes st st (Add v) (omega arith);
-      prepares = λ lane q mark g. by_if (Takes st (Line lane Prepare) mark) (has_no_volume (in_progress st)) _ _ own
-          (begun_takes _ st (few_begun kind.Prepare _ [] st.clock _ (let e = short (λ w. is_among w (takers (length s.writers) (selected s q st))) in omega (arith, e, rows)) (omega arith)));
-      snapshots = λ lane q mark g. by_if (Takes st (Line lane Snapshot) mark) (has_no_volume (in_progress st)) _ _ own
-          (begun_takes _ st (few_begun kind.Snapshot st.course.members (volumes_of (in_progress st)) st.clock st.course members (few_of_set (in_progress st) few.volumes)));
+      prepares = λ lane q mark g f. begun_takes _ st
+          (few_begun kind.Prepare _ [] st.clock _ (let e = short (λ w. is_among w (takers (length s.writers) (selected s q st))) in omega (arith, e, rows)) (omega arith));
+      snapshots = λ lane q mark g f. begun_takes _ st
+          (few_begun kind.Snapshot st.course.members (volumes_of (in_progress st)) st.clock st.course members (few_of_set (in_progress st) few.volumes));
       completes = λ lane q mark g. begun_takes _ st
           (few_begun kind.Complete _ [] st.clock _ (let e = short_filter (λ m. not (has_row_failed st.course.rows m.writer)) st.course.members in omega (arith, e, members)) (omega arith));
       aborts = λ lane q mark e. line_takes st (failed AsyncCancelled st) Abort (not_more_failed (in_progress st) AsyncCancelled st);

@@ -10,7 +10,7 @@ use Rattle.vss_model.proofs.Terms.{idle_now}
 use Rattle.set_agenda.specs.Limits.{Running}
 use Rattle.vss_model.proofs.StateForm.{later}
 use Rattle.vss_model.proofs.Changes.{CourseCall, called}
-use Rattle.vss_model.proofs.CourseFacts.{of_calls}
+use Rattle.vss_model.proofs.Rules.{of_calls}
 
 -- ## an agenda that runs is not done
 

@@ -20,13 +20,11 @@ use Rattle.scenario.specs.Calls.{line_of}
 use Rattle.scenario.specs.Plan.{Plan, acts_as, blocks_of}
 use Rattle.vss_model.specs.declared.event.Event.{Event}
 use Rattle.vss_model.specs.declared.event.Event.TheVariants.{Line, Answer as AnswerEvent, Provider, Idle}
-use Rattle.vss_model.specs.Reply.{Reply, Fine, Answered, Stepped, Idled}
+use Rattle.vss_model.specs.Reply.{Reply, Fine, Answered, Stepped, Idled, leaves_all}
 use Rattle.vss_model.specs.State.{State, Kept, start, left_now, is_held, is_frozen, history_of, kept_image}
-use Rattle.vss_model.specs.Ending.{runs}
+use Rattle.vss_model.specs.Steps.{runs, is_flush, is_failed_step}
 use Rattle.vss_model.specs.Images.{revert_refusal}
-use Rattle.vss_model.specs.Steps.{is_flush, is_failed_step}
 use Rattle.vss_model.specs.Lines.{line_reply}
-use Rattle.vss_model.specs.Replies.{leaves_all}
 use Rattle.vss_model.specs.Changes.{Change, after_changes, event_changes}
 
 -- an event, and whether a device failed in it

@@ -8,7 +8,7 @@ use Rattle.vss_names.specs.declared.set_outcome.SetOutcome.{SetOutcome}
 use Rattle.vss_names.specs.declared.set_outcome.SetOutcome.TheVariants.{Failed}
 use Rattle.vss_names.specs.declared.vss_result.VssResult.{VssResult}
 use Rattle.vss_names.specs.declared.vss_result.VssResult.TheVariants.{AsyncCancelled, InsufficientStorage}
-use Rattle.block_data.specs.PayloadBytes.{payload_bytes}
+use Rattle.block_data.specs.BlockBytes.{payload_bytes}
 use Rattle.write_history.specs.declared.mark.Mark.{Mark}
 use Rattle.write_history.specs.declared.mark.Mark.TheVariants.{Clean, Fault, FaultAfter}
 use Rattle.write_history.specs.History.{Write, written, cut as history_cut, dropped, reverted, reverted_in_part}
@@ -30,10 +30,9 @@ use Rattle.scenario.specs.Plan.{Plan, blocks_of, group_of, token}
 use Rattle.vss_model.specs.declared.event.Event.{Event}
 use Rattle.vss_model.specs.declared.event.Event.TheVariants.{Line, Answer as AnswerEvent, Provider, Idle}
 use Rattle.vss_model.specs.State.{State, SetRow, Kept, in_progress, row_changed, left_now, kept_image}
-use Rattle.vss_model.specs.Ending.{Ending, NothingEnds, AgendaEnds, SetFails, ending, row_settled, runs}
+use Rattle.vss_model.specs.Steps.{Ending, NothingEnds, AgendaEnds, SetFails, ending, row_settled, runs, row_cut, is_flush, is_failed_step}
 use Rattle.vss_model.specs.Images.{going_up_to, cleared, set_loses_image}
 use Rattle.vss_model.specs.Sessions.{is_disabled, known_metas, selected, new_number, new_set, with_volume, volumes_of}
-use Rattle.vss_model.specs.Steps.{row_cut, is_flush, is_failed_step}
 
 pub data Change : Type 0 where
   -- so many ticks go by (this project's own)

@@ -15,7 +15,7 @@ use Rattle.component_doc.specs.Selection.{Pair}
 use Rattle.scenario.specs.declared.op.Op.TheVariants as op
 use Rattle.scenario.specs.Plan.{Plan, group_of}
 use Rattle.vss_model.specs.State.{State, SetRow, Kept, in_progress, left_now, is_held, kept_image}
-use Rattle.vss_model.specs.Ending.{runs}
+use Rattle.vss_model.specs.Steps.{runs}
 use Rattle.vss_model.specs.Images.{going_up_to, is_in_set}
 use Rattle.vss_model.specs.Sessions.{add_refusal, has_no_volume}
 use Rattle.vss_model.specs.Changes.{AddsVolume, Drops, DropsSet, Evicts, Names, Writes, after_changes, answers, apply, calls, fails, next_step, opens, passes, reverts}

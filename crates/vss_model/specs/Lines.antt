@@ -9,7 +9,7 @@ use Rattle.scenario.specs.Plan.{Plan}
 use Rattle.scenario.specs.Calls.{line_of}
 use Rattle.vss_model.specs.Reply.{Reply, Fine}
 use Rattle.vss_model.specs.State.{State, kept_image}
-use Rattle.vss_model.specs.Ending.{runs}
+use Rattle.vss_model.specs.Steps.{runs}
 use Rattle.vss_model.specs.Images.{reply_of_mark, read_reply, block_reply, image_reply, query_reply, properties_reply, revert_refusal, revert_reply, delete_set_reply, delete_image_reply}
 use Rattle.vss_model.specs.Sessions.{judged_reply}
 

@@ -8,7 +8,7 @@ use Rattle.vss_names.specs.declared.set_outcome.SetOutcome.{SetOutcome}
 use Rattle.vss_names.specs.declared.set_outcome.SetOutcome.TheVariants.{Running, Complete, Failed}
 use Rattle.write_history.specs.History.{Image, History, fresh, point_in}
 use Rattle.writer_state.specs.declared.writer_row.WriterRow.{WriterRow}
-use Rattle.writer_state.specs.WriterRow.{first_row}
+use Rattle.writer_state.specs.WriterState.{first_row}
 use Rattle.set_agenda.specs.Agenda.{Open, left, is_frozen as freezes, is_held as holds}
 use Rattle.set_agenda.specs.Course.{Course, course_start}
 use Rattle.requestor.specs.Session.{Session}

@@ -16,7 +16,7 @@ use Rattle.scenario.specs.Plan.{Plan, LaneLine, lines_of, script_of}
 use Rattle.vss_model.specs.declared.event.Event.{Event}
 use Rattle.vss_model.specs.declared.event.Event.TheVariants.{Line, Answer as AnswerEvent, Provider, Idle as IdleEvent}
 use Rattle.vss_model.specs.State.{State, start}
-use Rattle.vss_model.specs.Ending.{runs}
+use Rattle.vss_model.specs.Steps.{runs}
 use Rattle.vss_model.specs.Acts.{Act, after, enabled, event_allows, order_of_writer}
 
 -- where a run stands: its state, and the moves so far

@@ -1,14 +1,34 @@
--- How many turns a run has left at most: one for each line that a lane has not made; for each of these lines that may begin an
+-- When a run can go on, and how many turns it has left at most. (This project's own.)
+use Rattle.std.specs.Prelude.{ℕ, ◌≡◌, true, ◌+◌, Bool, false, List, [], ◌∷◌, length, drop}
+use Rattle.write_history.specs.declared.actor.Actor.{Actor}
+use Rattle.write_history.specs.declared.mark.Mark.TheVariants.{Clean}
+use Rattle.write_history.specs.declared.move_item.Move.{Move}
+use Rattle.set_agenda.specs.Agenda.{Open}
+use Rattle.scenario.specs.Bounds.{ends_sessions, begins_agenda}
+use Rattle.scenario.specs.Plan.{Plan, lines_of, LaneLine, LanePlan}
+use Rattle.vss_model.specs.State.{left_now}
+use Rattle.vss_model.specs.Trail.{Run, is_legal_move, cursor}
+
+-- ## When a run can go on. A lane that begins a session ends it by a later line of its own: the scenario's text gives each
+-- lane that would not a last line `end`. (This project's own.)
+
+-- every lane ends its sessions
+abbrev pub EndsSessions : Plan → Type 0
+EndsSessions s = (i : ℕ) → ends_sessions (lines_of s i) ≡ true
+
+-- some actor's move, without a fault, may come next
+pub record CanGoOn (s : Plan) (r : Run) : Type 0 where
+  pub actor : Actor
+  pub legal : is_legal_move s r (record { actor = actor; mark = Clean }) ≡ true
+
+-- the most moves that a legal trail of a scenario within the limits has
+abbrev pub most_moves : ℕ
+most_moves = 1142064
+
+-- ## How many turns a run has left at most: one for each line that a lane has not made; for each of these lines that may begin an
 -- agenda as many more as an agenda can take, and in the running agenda one for each that is waited for, in the open group or in
 -- a later one. An agenda asks at most 64 writers in each of four orders, has four steps for each of at most 64 volumes and
 -- three more, and lets time go by six times at most. (This project's own.)
-use Rattle.std.specs.Prelude.{ℕ, ◌+◌, Bool, true, false, List, [], ◌∷◌, length, drop}
-use Rattle.write_history.specs.declared.move_item.Move.{Move}
-use Rattle.set_agenda.specs.Agenda.{Open}
-use Rattle.scenario.specs.Bounds.{begins_agenda}
-use Rattle.scenario.specs.Plan.{Plan, LaneLine, LanePlan}
-use Rattle.vss_model.specs.State.{left_now}
-use Rattle.vss_model.specs.Trail.{Run, cursor}
 
 -- how many are waited for, in all groups that are left
 abbrev pub waiting : List Open → ℕ

@@ -1,7 +1,6 @@
 -- The words of the model and of what is below it, from one place.
 pub use Rattle.component_doc.specs.Document.{document_text}
-pub use Rattle.component_doc.specs.Held.{Held}
-pub use Rattle.component_doc.specs.Over.{IsSelectedOver}
+pub use Rattle.component_doc.specs.Over.{Held, IsSelectedOver}
 pub use Rattle.component_doc.specs.Selection.{Named, Pair}
 pub use Rattle.component_doc.specs.declared.add_fault.AddFault.{AddFault}
 pub use Rattle.component_doc.specs.declared.add_fault.AddFault.TheVariants.{AlreadyExists, NotFound, OutOfMemory}
@@ -27,7 +26,7 @@ pub use Rattle.scenario.specs.declared.volume_row.VolumeRow.{VolumeRow}
 pub use Rattle.set_agenda.specs.Agenda.{Agenda, Entry, Open, all_say, at_level, at_place, group_code, groups_left, has_said, head_or_0, is_among, is_done, is_orders, is_over_volumes, is_snapshot}
 pub use Rattle.set_agenda.specs.Agenda.{is_working, left, left_from, level_code, members_of, next_member, next_volume, open_group, open_place, order_now, places, plain, same_place, volume_if}
 pub use Rattle.set_agenda.specs.Agenda.{waited_for, with_group}
-pub use Rattle.set_agenda.specs.Begin.{are_distinct}
+pub use Rattle.set_agenda.specs.Advance.{are_distinct}
 pub use Rattle.set_agenda.specs.Course.{Course, begun, change_at, course_start, member_if, members_from, outcome_after, released, settled_if, settled_in, stepped, timed}
 pub use Rattle.set_agenda.specs.WriterSet.{writers_of}
 pub use Rattle.set_agenda.specs.declared.group.Group.{Group}
@@ -41,18 +40,15 @@ pub use Rattle.vss_model.specs.Acts.{restorable, state}
 pub use Rattle.vss_model.specs.Changes.{Change, after_changes, fails, goes_on, made_at, passes, session_calls, steps}
 pub use Rattle.vss_model.specs.Cut.{is_cut_group}
 pub use Rattle.vss_model.specs.Effects.{ended_of, evicted, evicted_at, evicted_for, lost, lost_after, lost_order, lost_order_if, ticks_by, volumes_losing}
-pub use Rattle.vss_model.specs.Ending.{AgendaEnds, Ending, NothingEnds, SetFails, ending, row_settled, runs}
+pub use Rattle.vss_model.specs.Steps.{AgendaEnds, Ending, NothingEnds, SetFails, ending, row_settled, runs, is_failed_step, is_flush, row_cut, with_cut}
 pub use Rattle.vss_model.specs.Facts.{AllLive, AreLive, IsNewest, IsOfSession, NumberedFrom, OverButNewest, has_failed, is_live}
 pub use Rattle.vss_model.specs.Images.{cleared, count_images, going_up_to, has_lost_image, is_backup, is_in_set, read_as}
 pub use Rattle.vss_model.specs.Images.{reply_of_mark, revert_refusal, set_loses_image}
-pub use Rattle.vss_model.specs.Outcome.{EndsAs, HasLists, IsOutcome, told_act}
-pub use Rattle.vss_model.specs.Replies.{leaves_all}
-pub use Rattle.vss_model.specs.Reply.{BlockOf, BlocksOf, Coded, Deleted, Faulted, FaultedAfter, Fine, KeptSets, PropertiesOf, Reply, StatusOf}
+pub use Rattle.vss_model.specs.Outcome.{EndsAs, HasLists, IsOutcome, told_act, Fits, IsDigestIf, IsFirstIf, mark_if, mark_of}
+pub use Rattle.vss_model.specs.Reply.{leaves_all, BlockOf, BlocksOf, Coded, Deleted, Faulted, FaultedAfter, Fine, KeptSets, PropertiesOf, Reply, StatusOf}
 pub use Rattle.vss_model.specs.Sessions.{add_refusal, has_no_volume, call_reply, known_metas, most_images, most_volumes, new_set, selected, volumes_of, with_volume}
 pub use Rattle.vss_model.specs.State.{Kept, SetRow, State, has_image, history_in, history_of, in_progress, is_complete, is_held, is_kept_set, is_running, kept, kept_at, kept_if, kept_image, kept_of}
 pub use Rattle.vss_model.specs.State.{left_now, row_changed, row_of, row_of_writer, start}
-pub use Rattle.vss_model.specs.Steps.{is_failed_step, is_flush, row_cut, with_cut}
-pub use Rattle.vss_model.specs.Told.{Fits, IsDigestIf, IsFirstIf, mark_if, mark_of}
 pub use Rattle.vss_model.specs.Trail.{act_of, is_fault}
 pub use Rattle.vss_names.specs.Faults.{Rose}
 pub use Rattle.vss_names.specs.declared.context.Context.{Context}
@@ -76,7 +72,7 @@ pub use Rattle.write_history.specs.declared.mark.Mark.TheVariants.{Clean, Fault,
 pub use Rattle.writer_calls.specs.Script.{said_of}
 pub use Rattle.writer_meta.specs.Metadata.{Meta, meta_of}
 pub use Rattle.writer_meta.specs.declared.metadata.Metadata.{Metadata}
-pub use Rattle.writer_state.specs.WriterRow.{first_row, row_gathered}
+pub use Rattle.writer_state.specs.WriterState.{first_row, row_gathered}
 pub use Rattle.writer_state.specs.declared.said.Said.{Said}
 pub use Rattle.writer_state.specs.declared.said.Said.TheVariants.{Ok}
 pub use Rattle.writer_state.specs.declared.writer_row.WriterRow.{WriterRow}

@@ -3,7 +3,7 @@
 ghost use Rattle.std.specs.Prelude.{◌≡◌, [], true, false};
 ghost use Rattle.scenario.specs.Plan.{Plan};
 ghost use Rattle.vss_model.specs.State.{State};
-ghost use Rattle.vss_model.specs.Replies.{leaves_all};
+ghost use Rattle.vss_model.specs.Reply.{leaves_all};
 ghost use Rattle.vss_model.specs.Acts.{Act, after, changes, enabled, reply};
 
 /// An act that is not enabled, is refused, or only looks has no changes, in any state; and without changes the state stays.

@@ -1,10 +1,1 @@
-pub mod ComponentTypeRows
-pub mod ContextRows
-pub mod LevelRows
 pub mod LookUps
-pub mod OrderRows
-pub mod SourceKindRows
-pub mod UsageRows
-pub mod VssResultRows
-pub mod WriterErrorRows
-pub mod WriterStateRows

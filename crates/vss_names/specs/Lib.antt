@@ -2,12 +2,9 @@ pub mod ComponentType
 pub mod Context
 pub mod Faults
 pub mod Level
-pub mod LookUp
 pub mod Names
 pub mod Order
-pub mod Schedules
 pub mod SourceKind
-pub mod TextValue
 pub mod Usage
 pub mod VssResult
 pub mod WriterError

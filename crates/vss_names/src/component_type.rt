@@ -1,6 +1,6 @@
 ghost use Rattle.std.specs.Prelude.{◌≡◌, Some};
 ghost use Rattle.std.specs.Fmt.{padded};
-ghost use Rattle.vss_names.specs.LookUp.{IsLookUp};
+ghost use Rattle.vss_names.specs.Names.{IsLookUp};
 ghost use Rattle.vss_names.specs.ComponentType.{number_of, name_of, component_type_of_number, component_type_of_name};
 
 use std::fmt;

@@ -1,6 +1,5 @@
 ghost use Rattle.std.specs.Prelude.{◌≡◌, length, IsTrue, is_err, ◌==◌};
-ghost use Rattle.vss_names.specs.Faults.{counted, HasCause};
-ghost use Rattle.vss_names.specs.Schedules.{Schedule, IsCall, failing_at, after_call, fails_next, next_call};
+ghost use Rattle.vss_names.specs.Faults.{counted, HasCause, Schedule, IsCall, failing_at, after_call, fails_next, next_call};
 
 use crate::failed::Failed;
 use crate::numbers::Numbers;
@@ -14,7 +13,7 @@ pub struct FailingCalls {
 }
 
 impl Model for FailingCalls {
-    ghost use Rattle.vss_names.specs.Schedules.{Schedule};
+    ghost use Rattle.vss_names.specs.Faults.{Schedule};
 
     ghost Value = { Schedule };
 

@@ -1,6 +1,6 @@
 ghost use Rattle.std.specs.Prelude.{◌≡◌, Some};
 ghost use Rattle.std.specs.Fmt.{padded};
-ghost use Rattle.vss_names.specs.LookUp.{IsLookUp};
+ghost use Rattle.vss_names.specs.Names.{IsLookUp};
 ghost use Rattle.vss_names.specs.Level.{number_of, name_of, level_of_number, level_of_name};
 
 use std::fmt;

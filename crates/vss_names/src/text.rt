@@ -1,5 +1,5 @@
 ghost use Rattle.std.specs.Prelude.{◌≡◌, ◌+◌, ◌-◌, ◌≤◌, ◌++◌, [], length, take, vec_len, vec_capacity, IsOk, IsTrue, IfOk, OnOk, OnErr, ◌↔◌};
-ghost use Rattle.vss_names.specs.TextValue.{TextValue};
+ghost use Rattle.vss_names.specs.Names.{TextValue};
 
 use crate::out_of_memory::OutOfMemory;
 use std::alloc::Global;

@@ -1,6 +1,6 @@
 ghost use Rattle.std.specs.Prelude.{◌≡◌, Some};
 ghost use Rattle.std.specs.Fmt.{padded};
-ghost use Rattle.vss_names.specs.LookUp.{IsLookUp};
+ghost use Rattle.vss_names.specs.Names.{IsLookUp};
 ghost use Rattle.vss_names.specs.VssResult.{name_of, vss_result_of_name};
 ghost use Rattle.vss_names.specs.declared.vss_result.VssResult.TheVariants.{Writer};
 

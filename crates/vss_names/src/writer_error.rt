@@ -1,6 +1,6 @@
 ghost use Rattle.std.specs.Prelude.{◌≡◌, Some};
 ghost use Rattle.std.specs.Fmt.{padded};
-ghost use Rattle.vss_names.specs.LookUp.{IsLookUp};
+ghost use Rattle.vss_names.specs.Names.{IsLookUp};
 ghost use Rattle.vss_names.specs.WriterError.{number_of, name_of, error_of_number, error_of_name};
 
 use std::fmt;

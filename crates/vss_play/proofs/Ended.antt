@@ -1,22 +1,39 @@
--- A run that is closed in its own report, and whose devices were given back.
-use Rattle.std.proofs.Common.{◌≡◌, ℕ, ◌≤◌, List, ◌++◌, length, refl, ap, sym, ◌∙◌, Bool, Option, subst}
+-- A run of which nothing has happened, and one that is closed in its own report, whose devices were given back.
+use Rattle.std.proofs.Common.{◌≡◌, ℕ, zero, suc, ◌+◌, List, [], length, refl, ap, arith, replicate, Option, ◌≤◌, ◌++◌, sym, ◌∙◌, Bool, subst}
 use Rattle.std.specs.Prelude.{map, option_map, Result, Ok, Err}
 use Rattle.vss_names.specs.Faults.{all_counted}
-use Rattle.vss_names.specs.TextValue.{TextValue}
+use Rattle.vss_names.specs.Names.{TextValue}
 use Rattle.volume_device.specs.declared.device.Device.{Ghosts}
 use Rattle.write_history.specs.declared.move_item.Move.{Move}
+use Rattle.scenario.specs.Bounds.{IsPlan}
 use Rattle.scenario.specs.Plan.{Plan}
-use Rattle.vss_report.specs.Report.{IsReportSoFar}
-use Rattle.vss_world.specs.Devices.{tells_of}
-use Rattle.vss_world.specs.Stands.{WorldValue}
+use Rattle.vss_report.specs.Report.{first_line, IsReportSoFar}
+use Rattle.vss_report.proofs.Telling.{so_far_none}
+use Rattle.vss_world.specs.Stands.{tells_of, WorldValue, Stands, IsOf}
+use Rattle.vss_play.specs.Closing.{HasRisen, IsEnding, HasClosing, has_failed}
+use Rattle.vss_play.specs.Made.{AreLeft}
+use Rattle.vss_play.specs.Played.{Played, IsEnd, IsEnded, AreasHold}
+use Rattle.vss_play.specs.Running.{AreCursors, IsPlay}
 use Rattle.vss_play.specs.declared.play_fault.PlayFault.{PlayFault}
 use Rattle.vss_play.specs.declared.play_fault.PlayFault.TheVariants.{Failed, OutOfMemory}
-use Rattle.vss_play.specs.Played.{Played, IsEnd, IsEnded, AreasHold}
-use Rattle.vss_play.specs.Running.{IsPlay}
-use Rattle.vss_play.specs.Closing.{HasRisen, IsEnding, HasClosing, has_failed}
-use Rattle.vss_play.specs.Lasting.{AreLeft}
 use Rattle.vss_play.proofs.ClosingLines.{closed_as, play_ending}
 use Rattle.vss_play.proofs.Finishing.{play_kept}
+
+-- ## A run of which nothing has happened.
+
+cursors_first : (i n : ℕ) → AreCursors [] i (replicate n 0)
+cursors_first i zero = tt
+cursors_first i (suc n) = (refl, cursors_first (i + 1) n)
+
+length_replicate : (n x : ℕ) → length (replicate n x) ≡ n
+length_replicate zero x = refl
+length_replicate (suc n) x = ap suc (length_replicate n x)
+
+pub play_fresh : {D : Type 0} (told : D → Option (List (List ℕ))) (s : Plan) (w : WorldValue D) (cursors : List ℕ) (moves : List Move) (text : List ℕ) (lanes : ℕ)
+    → IsPlan s → Stands told w s [] → IsOf w s → lanes ≡ length s.lanes → cursors ≡ replicate {A = ℕ} lanes 0 → moves ≡ [] → text ≡ first_line → IsPlay told s w cursors moves text
+play_fresh told s w cursors moves text lanes plan stands of many first none line = grind (arith, so_far_none, cursors_first, length_replicate)
+
+-- ## A run that is closed in its own report, and whose devices were given back.
 
 pub ended_as : {D : Type 0} (ghosts : Ghosts D) (s : Plan) (old new : WorldValue D) (cursors : List ℕ) (trail : List Move) (text : List ℕ) (p : Played D)
     (ds : List D) (places : ℕ) (kept_first kept_last : Option (List D)) (count_first count_last : ℕ) (result : Result TextValue PlayFault)

@@ -12,20 +12,18 @@ use Rattle.write_history.specs.declared.move_item.Move.{Move}
 use Rattle.scenario.specs.declared.volume_row.VolumeRow.{VolumeRow}
 use Rattle.scenario.specs.Plan.{Plan, GroupPlan}
 use Rattle.scenario.specs.Bounds.{IsPlan, IsVolume, IsInGroup, groups_from}
-use Rattle.diff_area.specs.Places.{blocks_for}
-use Rattle.diff_area.specs.Records.{AreVolumes}
-use Rattle.cow_volume.specs.GroupValue.{GroupValue}
+use Rattle.diff_area.specs.Format.{blocks_for, AreVolumes}
+use Rattle.cow_volume.specs.StandsFor.{GroupValue}
 use Rattle.scenario.specs.Places.{of_group_if, blocks_in_group, count_if, place_in}
-use Rattle.provider.specs.Devices.{devices_of, first_place, area_place, volume_place_in, volume_place, volumes_area_in, volumes_area}
-use Rattle.vss_report.specs.ToldReport.{all_tell}
-use Rattle.vss_world.specs.Devices.{told_by, told_at, tells_from, tells_of}
+use Rattle.provider.specs.Groups.{devices_of, first_place, area_place, volume_place_in, volume_place, volumes_area_in, volumes_area}
+use Rattle.vss_report.specs.ToldLines.{all_tell}
+use Rattle.vss_world.specs.Stands.{told_by, told_at, tells_from, tells_of}
 use Rattle.vss_world.specs.Quiet.{AreNew}
 use Rattle.vss_play.specs.Made.{IsZero, IsNewDevice, AreMade, AreSorted, groups_of_devices, in_group, IsOpened, AreOpened, IsOpening}
 use Rattle.vss_play.specs.Played.{IsFresh, device_sizes}
 use Rattle.vss_play.proofs.Areas.{first_up}
-use Rattle.vss_play.proofs.LaneLines.{at_all}
+use Rattle.vss_play.proofs.Sorting.{at_all, Next, in_group_append, one_of_each, map_in_group, all_in_group, next_at, none_left}
 use Rattle.vss_play.proofs.NewDevices.{take_all, many_names, many_sizes, made_many, new_counts}
-use Rattle.vss_play.proofs.Sorting.{Next, in_group_append, one_of_each, map_in_group, all_in_group, next_at, none_left}
 use Rattle.cow_volume.proofs.Group.{told_in-both as both_tell}
 use Rattle.provider.proofs.Room.{few_within as few_in_group}
 use Rattle.cow_volume.proofs.Reverting.{take_next}

@@ -1,14 +1,27 @@
--- Devices are sorted one by one into the lists of their groups.
-use Rattle.std.proofs.Common.{◌≡◌, ℕ, zero, suc, ◌+◌, ◌==◌, ◌<◌, ◌≤◌, List, [], ◌∷◌, ◌++◌, length, take, drop, refl, ap, sym, ◌∙◌, arith, Bool, true, false, Some, subst, add-one, replicate, get_or}
-use Rattle.std.specs.Prelude.{slice_get, slice_set, map, All, option_map, if◌then◌else◌}
+-- Devices that are sorted into the lists of their groups, and the lines of lanes, with how far each lane is.
+use Rattle.std.proofs.Common.{◌≡◌, ℕ, zero, suc, ◌+◌, ◌==◌, ◌<◌, ◌≤◌, List, [], ◌∷◌, ◌++◌, length, take, drop, refl, ap, sym, ◌∙◌, arith, Bool, true, false}
+use Rattle.std.proofs.Common.{Some, subst, add-one, replicate, get_or, Option, None}
+use Rattle.std.proofs.lemmas.List.Elements.{All-cons, All-head, All-tail, All-nil, All-get_or}
+use Rattle.std.proofs.lemmas.List.Sums.{sum_by-cons}
+use Rattle.std.proofs.lemmas.Option.{slice_get_past, slice_get_within, slice_get-map, slice_get-get_or, get_or_from_slice_get}
 use Rattle.std.specs.List.{range_with_len}
-use Rattle.std.proofs.lemmas.List.Elements.{All-cons, All-head, All-tail, All-nil}
-use Rattle.std.proofs.lemmas.Option.{slice_get_past, slice_get_within, slice_get-map, slice_get-get_or}
+use Rattle.std.specs.Prelude.{slice_get, slice_set, map, All, option_map, if◌then◌else◌, slice_index, sum}
+use Rattle.write_history.specs.declared.actor.Actor.{Actor}
+use Rattle.write_history.specs.declared.actor.Actor.TheVariants.{Lane}
+use Rattle.write_history.specs.declared.move_item.Move.{Move}
+use Rattle.diff_area.proofs.ByPlace.{get-set_same as set_here}
+use Rattle.cow_volume.proofs.Group.{length-slice_set, number_is}
+use Rattle.scenario.specs.Bounds.{IsPlan, IsLane, IsOp}
+use Rattle.scenario.specs.Plan.{Plan, LaneLine, LanePlan, lines_in, lines_of}
+use Rattle.scenario.proofs.Places.{other_number}
+use Rattle.vss_model.specs.Trail.{is_lane, cursor}
+use Rattle.vss_model.proofs.GoesOn.{cursor_more, cursor_same}
 use Rattle.vss_play.specs.Made.{in_group, IsSorting}
+use Rattle.vss_play.specs.Running.{AreCursors, advanced}
+use Rattle.vss_play.proofs.FaultMarks.{append_nil}
 use Rattle.vss_play.proofs.NewDevices.{take_all}
-use Rattle.diff_area.proofs.Gets.{get-set_same as set_here}
-use Rattle.cow_volume.proofs.Group.{length-slice_set}
-use Rattle.vss_play.proofs.GivingBack.{append_nil}
+
+-- ## Devices are sorted one by one into the lists of their groups.
 
 pub nothing : {X : Type 0} (k : ℕ) (x : X) → slice_get [] k ≡ Some x → ⊥
 nothing k x e = grind (arith, slice_get_past)
@@ -192,3 +205,71 @@ mapped items rest less v e = ap (map items) e
 
 pub mapped_none : {V D : Type 0} (items : V → List D) (rest : List V) → rest ≡ [] → map items rest ≡ []
 mapped_none items rest e = ap (map items) e
+
+-- ## The lines of lanes, and how far each lane is.
+
+pub at_all : {X : Type 0} (P : X → Type 0) (xs : List X) (i : ℕ) (x : X) → slice_get xs i ≡ Some x → All P xs → P x
+at_all P xs i x e h = subst P (get_or_from_slice_get xs i x x e) (All-get_or P xs i x (slice_get_within xs i x e) h)
+
+lane_in_from : (xs : List LanePlan) (i k : ℕ) (l : LaneLine) → slice_get (lines_in (slice_get xs i)) k ≡ Some l → i < length xs
+lane_in_from xs i k l e = grind (arith, nothing, slice_get_past)
+
+-- a lane that has a line is there
+pub lane_in : (s : Plan) (i k : ℕ) (l : LaneLine) → slice_get (lines_of s i) k ≡ Some l → i < length s.lanes
+lane_in s i k l e = lane_in_from s.lanes i k l e
+
+op_in : (s : Plan) (o : Option LanePlan) (i k : ℕ) (l : LaneLine) → All (IsLane s) s.lanes → slice_get s.lanes i ≡ o → slice_get (lines_in o) k ≡ Some l → IsOp s l.op
+op_in s None i k l h e f = absurd (nothing k l f)
+op_in s (Some lane) i k l h e f = at_all (λ (x : LaneLine). IsOp s x.op) lane.lines k l f (at_all (IsLane s) s.lanes i lane e h).ops
+
+pub line_is_op : (s : Plan) (i k : ℕ) (l : LaneLine) → IsPlan s → slice_get (lines_of s i) k ≡ Some l → IsOp s l.op
+line_is_op s i k l plan e = op_in s (slice_get s.lanes i) i k l plan.lanes refl e
+
+-- ## cursors
+
+cursors_same : (trail : List Move) (m : Move) (i : ℕ) (cursors : List ℕ) → ((j : ℕ) → is_lane j m.actor ≡ false) → AreCursors trail i cursors → AreCursors (trail ++ m ∷ []) i cursors
+cursors_same trail m i [] out h = tt
+cursors_same trail m i (c ∷ cursors) out h = (h.0 ∙ sym (cursor_same trail m i (out i)), cursors_same trail m (i + 1) cursors out h.1)
+
+-- those of later lanes
+cursors_past : (trail : List Move) (m : Move) (lane i : ℕ) (cursors : List ℕ) → m.actor ≡ Lane lane → lane < i → AreCursors trail i cursors → AreCursors (trail ++ m ∷ []) i cursors
+cursors_past trail m lane i [] who past h = tt
+cursors_past trail m lane i (c ∷ cursors) who past h =
+    (h.0 ∙ sym (cursor_same trail m i (ap (is_lane i) who ∙ other_number lane i (λ e. absurd (omega arith)))), cursors_past trail m lane (i + 1) cursors who (omega arith) h.1)
+
+cursors_at : (trail : List Move) (m : Move) (lane i k : ℕ) (cursors : List ℕ) → m.actor ≡ Lane lane → lane ≡ i + k → AreCursors trail i cursors
+    → AreCursors (trail ++ m ∷ []) i (slice_set cursors k (slice_index cursors k + 1))
+cursors_at trail m lane i k [] who at h = tt
+cursors_at trail m lane i zero (c ∷ cursors) who at h =
+    let here : lane ≡ i = omega arith in
+    (add-one c ∙ ap suc h.0 ∙ sym (cursor_more trail m i (ap (is_lane i) who ∙ ap (λ n. n == i) here ∙ number_is i)), cursors_past trail m lane (i + 1) cursors who (omega arith) h.1)
+cursors_at trail m lane i (suc k) (c ∷ cursors) who at h =
+    (h.0 ∙ sym (cursor_same trail m i (ap (is_lane i) who ∙ other_number lane i (λ e. absurd (omega arith)))), cursors_at trail m lane (i + 1) k cursors who (omega arith) h.1)
+
+pub cursors_after : (trail : List Move) (m : Move) (actor : Actor) (cursors : List ℕ) → m.actor ≡ actor → AreCursors trail 0 cursors → AreCursors (trail ++ m ∷ []) 0 (advanced actor cursors)
+cursors_after trail m actor cursors who h = grind (arith, cursors_at, cursors_same)
+
+length-slice_set_lane : (xs : List ℕ) (k x : ℕ) → length (slice_set xs k x) ≡ length xs
+length-slice_set_lane [] k x = refl
+length-slice_set_lane (y ∷ xs) zero x = refl
+length-slice_set_lane (y ∷ xs) (suc k) x = ap suc (length-slice_set_lane xs k x)
+
+pub length-advanced : (actor : Actor) (cursors : List ℕ) → length (advanced actor cursors) ≡ length cursors
+length-advanced actor cursors = grind (arith, length-slice_set_lane)
+
+cursor_in : (trail : List Move) (i k : ℕ) (cursors : List ℕ) → k < length cursors → AreCursors trail i cursors → slice_index cursors k ≡ cursor trail (i + k)
+cursor_in trail i k [] l h = absurd (omega arith)
+cursor_in trail i zero (c ∷ cursors) l h = h.0 ∙ ap (cursor trail) (omega arith)
+cursor_in trail i (suc k) (c ∷ cursors) l h = cursor_in trail (i + 1) k cursors (omega arith) h.1 ∙ ap (cursor trail) (omega arith)
+
+pub cursor_is : (trail : List Move) (cursors : List ℕ) (i : ℕ) → i < length cursors → AreCursors trail 0 cursors → slice_index cursors i ≡ cursor trail i
+cursor_is trail cursors i l h = cursor_in trail 0 i cursors l h ∙ ap (cursor trail) (omega arith)
+
+lines_le_sum : (xs : List LanePlan) (i : ℕ) → i < length xs → length (lines_in (slice_get xs i)) ≤ sum (map (λ (l : LanePlan). length l.lines) xs)
+lines_le_sum [] i l = absurd (omega arith)
+lines_le_sum (x ∷ xs) zero l = let e = sum_by-cons (λ (n : ℕ). n) (length x.lines) (map (λ (y : LanePlan). length y.lines) xs) in omega arith
+lines_le_sum (x ∷ xs) (suc i) l = let e = sum_by-cons (λ (n : ℕ). n) (length x.lines) (map (λ (y : LanePlan). length y.lines) xs) in let below = lines_le_sum xs i (omega arith) in omega arith
+
+-- a cursor at a line is small
+pub cursor_small : (s : Plan) (i k : ℕ) (l : LaneLine) → IsPlan s → slice_get (lines_of s i) k ≡ Some l → k < 1000000
+cursor_small s i k l plan e = grind (arith, lines_le_sum, lane_in, slice_get_within)

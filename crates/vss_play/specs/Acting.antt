@@ -1,19 +1,32 @@
--- A run as a machine that its actors step one at a time: what an entry of its history is, what trail a history leads to, for what
--- reason an actor's loop ends, and what the history of a run in threads has. (This project's own.)
-use Rattle.std.specs.Prelude.{ℕ, ◌≡◌, ◌<◌, List, [], ◌∷◌, ◌++◌, length, map, slice_get, Option, Some, None, Result, Ok, Err, IsErr, ◌⊎◌}
+-- A run as a machine that its actors step one at a time, and the actors that rest beside a turn. (This project's own.)
 use Rattle.std.specs.List.{All, range_with_len}
+use Rattle.std.specs.List.Sorted.{IsPermutation}
+use Rattle.std.specs.Prelude.{ℕ, ◌≡◌, ◌≢◌, ◌++◌, ◌∷◌, [], List, Option, Some, None, option_to_list, ◌<◌, length, map, slice_get, Result, Ok, Err, IsErr, ◌⊎◌}
 use Rattle.vss_names.specs.declared.out_of_memory.OutOfMemory.{OutOfMemory}
+use Rattle.turn_cell.specs.History.{Leads, entries_of}
+use Rattle.turn_cell.specs.declared.entry.Entry.{Entry}
+use Rattle.turn_cell.specs.declared.view.Known.{Known}
 use Rattle.volume_device.specs.declared.device.Device.{Ghosts}
 use Rattle.write_history.specs.declared.actor.Actor.{Actor}
 use Rattle.write_history.specs.declared.actor.Actor.TheVariants.{Lane, Writer, Advance}
 use Rattle.write_history.specs.declared.move_item.Move.{Move}
 use Rattle.scenario.specs.Plan.{Plan}
-use Rattle.turn_cell.specs.declared.entry.Entry.{Entry}
-use Rattle.turn_cell.specs.declared.view.Known.{Known}
-use Rattle.turn_cell.specs.History.{Leads, entries_of}
+use Rattle.vss_play.specs.Played.{Played, IsKept, IsTurn, IsOnward, IsPlayedInTurn}
 use Rattle.vss_play.specs.declared.moved.Moved.{Moved}
 use Rattle.vss_play.specs.declared.moved.Moved.TheVariants.{Moved as HasMoved, Blocked, Finished}
-use Rattle.vss_play.specs.Played.{Played, IsKept, IsTurn, IsOnward, IsPlayedInTurn}
+
+-- ## The actors that rest beside a turn: one at a time has the floor, and the others get it in the order of a line. (This project's own.)
+
+-- the floor stays with its holder, where that is another actor, and goes to nobody
+abbrev pub StaysWithAnother : Option ℕ → ℕ → Option ℕ → Option ℕ → Type 0
+StaysWithAnother before actor after next = (other : ℕ) → before ≡ Some other → other ≢ actor → (after ≡ Some other) × (next ≡ None)
+
+-- an actor came into a line, and the next of it got the floor: nobody is lost, and no other is added
+abbrev pub IsSeated : List ℕ → ℕ → Option ℕ → List ℕ → Type 0
+IsSeated before actor next after = IsPermutation (before ++ actor ∷ []) (option_to_list next ++ after)
+
+-- ## A run as a machine that its actors step one at a time: what an entry of its history is, what trail a history leads to, for what
+-- reason an actor's loop ends, and what the history of a run in threads has. (This project's own.)
 
 -- those who act in threads of their own: the lanes by number, the writers by number, and the provider
 abbrev pub actors_in_threads : Plan → List Actor

@@ -1,15 +1,19 @@
 -- Writers of the caller's own: what a call that asks them comes to. Each order is given once, and so is each abort. (This project's own.)
-use Rattle.std.specs.Prelude.{ℕ, ◌≡◌, ◌<◌, ◌≤◌, ◌+◌, ◌==◌, Bool, true, false, nat_lt, List, length, min, Option, Some, None, slice_get, if◌then◌else◌}
+use Rattle.std.specs.Prelude.{ℕ, ◌≡◌, ◌<◌, ◌≤◌, ◌+◌, ◌==◌, Bool, true, false, nat_lt, List, length, min, Option, Some, None, slice_get, if◌then◌else◌, codes}
+use Rattle.writer_state.specs.WriterState.{one_more}
+use Rattle.writer_state.specs.declared.writer_row.WriterRow.{WriterRow}
 use Rattle.set_agenda.specs.Course.{Course}
-use Rattle.coordinator.specs.OpenOrders.{standing_in}
-use Rattle.vss_model.specs.declared.event.Event.{Event}
-use Rattle.vss_model.specs.declared.event.Event.TheVariants.{Line, Answer as AnswerEvent, Provider, Idle}
 use Rattle.writer_calls.specs.declared.answer.Answer.{Answer}
 use Rattle.writer_calls.specs.declared.standing.Standing.{Standing}
 use Rattle.writer_calls.specs.declared.vss_writer.VssWriter.{Ghosts}
-use Rattle.writer_state.specs.declared.writer_row.WriterRow.{WriterRow}
-use Rattle.writer_state.specs.WriterRow.{one_more}
+use Rattle.coordinator.specs.OpenOrders.{standing_in}
+use Rattle.vss_model.specs.declared.event.Event.{Event}
+use Rattle.vss_model.specs.declared.event.Event.TheVariants.{Line, Answer as AnswerEvent, Provider, Idle}
 use Rattle.vss_play.specs.declared.given.Given.{Given}
+use Rattle.vss_play.specs.declared.play_fault.PlayFault.{PlayFault}
+use Rattle.vss_play.specs.declared.play_fault.PlayFault.TheVariants as play
+use Rattle.vss_play.specs.declared.step_fault.StepFault.{StepFault}
+use Rattle.vss_play.specs.declared.step_fault.StepFault.TheVariants as step
 
 -- ## one writer
 
@@ -61,3 +65,13 @@ pub record AreAsked {W : Type 0} (ghosts : Ghosts W) (c : Course) (n : ℕ) (gs 
   pub told : List W
   pub aborts : AreTold ghosts c.rows n gs given ws told
   pub orders : IsAnswered ghosts (standing_in c) n given hs told us result
+
+-- ## What is said of a turn that was not taken, and of a run that was not begun or not closed. (This project's own.)
+
+abbrev pub play_message : PlayFault → List ℕ
+play_message play.Failed = codes "a device failed"
+play_message play.OutOfMemory = codes "out of memory"
+
+abbrev pub step_message : StepFault → List ℕ
+step_message step.TrailFull = codes "the trail is full"
+step_message step.OutOfMemory = codes "out of memory"

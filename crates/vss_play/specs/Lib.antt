@@ -2,10 +2,6 @@ pub mod Played
 pub mod Running
 pub mod Made
 pub mod Closing
-pub mod Lasting
-pub mod Messages
-pub mod Acting
-pub mod Digested
-pub mod Serving
-pub mod Resting
 pub mod Asking
+pub mod Acting
+pub mod Serving

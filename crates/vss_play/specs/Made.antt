@@ -1,15 +1,17 @@
 -- Devices that were just made, one for each name; sorted by the groups of the scenario, each group's volumes' and then its area's; and
 -- the groups that are opened over them. (This project's own.)
-use Rattle.std.specs.Prelude.{ℕ, suc, ◌≡◌, ◌≤◌, ◌==◌, Bool, drop, take, slice_get, Some, List, [], ◌∷◌, ◌++◌, length, map, All, IfSome, IsSome, IsTrue, replicate, if◌then◌else◌, Option}
 use Rattle.std.specs.List.{range_with_len}
-use Rattle.block_data.specs.Runs.{zeros}
+use Rattle.std.specs.Prelude.{ℕ, suc, ◌≡◌, ◌≤◌, ◌==◌, Bool, drop, take, slice_get, Some, List, [], ◌∷◌, ◌++◌, length, map, All, IfSome, IsSome, IsTrue}
+use Rattle.std.specs.Prelude.{replicate, if◌then◌else◌, Option, ◌<◌}
+use Rattle.block_data.specs.BlockBytes.{zeros}
 use Rattle.volume_device.specs.declared.device.Device.{Ghosts}
 use Rattle.write_history.specs.History.{fresh}
-use Rattle.scenario.specs.declared.volume_row.VolumeRow.{VolumeRow}
-use Rattle.scenario.specs.Plan.{Plan, GroupPlan}
-use Rattle.cow_volume.specs.GroupValue.{GroupValue}
-use Rattle.cow_volume.specs.StandsFor.{StandsFor}
+use Rattle.cow_volume.specs.Calls.{LastsAt}
+use Rattle.cow_volume.specs.StandsFor.{GroupValue, StandsFor}
 use Rattle.scenario.specs.Places.{blocks_in_group}
+use Rattle.scenario.specs.Plan.{Plan, GroupPlan}
+use Rattle.scenario.specs.declared.volume_row.VolumeRow.{VolumeRow}
+use Rattle.provider.specs.Groups.{AreSized, area_place, volume_place}
 
 -- ## devices
 
@@ -79,3 +81,22 @@ pub record IsOpening {D : Type 0} (told : D → Option (List (List ℕ))) (s : P
   pub few : g ≤ length sorted
   pub rest_is : rest ≡ drop g sorted
   pub opened : (devices : List D) → AreSorted s sorted devices → AreOpened told s.volumes (groups_of_devices s) devices 0 (take g s.groups) groups
+
+-- ## What a run leaves of its devices: all that each of them tells lasts, and none has another size than was declared. (This project's own.)
+
+-- what the devices of the first k volumes tell lasts, and what those of the areas of the first k groups do
+abbrev pub FirstVolumesLasted : {D : Type 0} → Ghosts D → Plan → List D → ℕ → Type 0
+FirstVolumesLasted ghosts s devices k = (v : ℕ) → v < k → LastsAt ghosts (volume_place s v) devices
+
+abbrev pub FirstAreasLasted : {D : Type 0} → Ghosts D → Plan → List D → ℕ → Type 0
+FirstAreasLasted ghosts s devices k = (g : ℕ) → g < k → LastsAt ghosts (area_place g s.volumes) devices
+
+-- what the devices of all volumes and of all areas tell
+pub record HaveLasted {D : Type 0} (ghosts : Ghosts D) (s : Plan) (devices : List D) : Type 0 where
+  pub volumes : FirstVolumesLasted ghosts s devices (length s.volumes)
+  pub areas : FirstAreasLasted ghosts s devices (length s.groups)
+
+-- the devices of a run that has ended: each has the size that was declared, and all that it tells lasts
+pub record AreLeft {D : Type 0} (ghosts : Ghosts D) (s : Plan) (devices : List D) : Type 0 where
+  pub sizes : AreSized ghosts.size s devices
+  pub lasted : HaveLasted ghosts s devices

@@ -5,7 +5,7 @@ use Rattle.write_history.specs.declared.actor.Actor.TheVariants.{Lane, Writer, A
 use Rattle.scenario.specs.Plan.{Plan, LaneLine, lines_of}
 use Rattle.vss_model.specs.declared.event.Event.{Event}
 use Rattle.vss_model.specs.declared.event.Event.TheVariants.{Line, Answer, Provider, Idle}
-use Rattle.vss_model.specs.Told.{mark_of}
+use Rattle.vss_model.specs.Outcome.{mark_of}
 use Rattle.vss_world.specs.declared.reply.Reply.{Reply}
 use Rattle.vss_world.specs.declared.reply.Reply.TheVariants.{Blocked, Moved}
 use Rattle.vss_world.specs.Stands.{WorldValue, IsOf, IsStanding}

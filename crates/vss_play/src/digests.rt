@@ -1,11 +1,10 @@
 //! The digests of the volumes at the end of a run.
 
 ghost use Rattle.std.specs.Prelude.{◌≡◌, length, map, is_err, OnOk};
-ghost use Rattle.vss_world.specs.Devices.{tells_of};
+ghost use Rattle.vss_world.specs.Stands.{tells_of};
 ghost use Rattle.vss_play.specs.Played.{AreasHold};
-ghost use Rattle.vss_play.specs.Closing.{AreReady, Closes, HasRisen, StandsAfter, IsEnding};
-ghost use Rattle.vss_play.specs.Digested.{AreDigests};
-ghost use Rattle.vss_play.specs.Lasting.{AreLeft};
+ghost use Rattle.vss_play.specs.Closing.{AreReady, Closes, HasRisen, StandsAfter, IsEnding, AreDigests};
+ghost use Rattle.vss_play.specs.Made.{AreLeft};
 
 use crate::closing::sync_all;
 use crate::end_digests::digest_of;

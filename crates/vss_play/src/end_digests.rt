@@ -3,9 +3,8 @@
 ghost use Rattle.std.specs.Prelude.{◌≡◌, ◌<◌, true, is_some, is_err, length, IfOk, IfSome};
 ghost use Rattle.write_history.specs.History.{point_in};
 ghost use Rattle.vss_model.specs.State.{history_of, kept};
-ghost use Rattle.vss_world.specs.Devices.{tells_of};
-ghost use Rattle.vss_world.specs.Reading.{IsDigestOf};
-ghost use Rattle.vss_world.specs.Stands.{IfStands};
+ghost use Rattle.vss_world.specs.Stands.{tells_of, IfStands};
+ghost use Rattle.vss_world.specs.Changes.{IsDigestOf};
 ghost use Rattle.vss_play.specs.Closing.{AreReady, Closes, StandsAfter, state_after};
 
 use provider::{DigestsOf, ReadyDigests};
@@ -54,14 +53,8 @@ pub(crate) fn digest_of<D: Device>(
     if let Some(digest) = ready.take(volume, set) {
         return Ok(digest);
     }
-    match set {
-        None => match world.digest(scenario, volume) {
-            Ok(digest) => Ok(digest),
-            Err(_fault) => Err(Failed),
-        },
-        Some(set) => match world.digest_image(scenario, set, volume) {
-            Ok(digest) => Ok(digest),
-            Err(_fault) => Err(Failed),
-        },
+    match world.digest(scenario, volume, set) {
+        Ok(digest) => Ok(digest),
+        Err(_fault) => Err(Failed),
     }
 }

@@ -1,8 +1,7 @@
 //! The groups of volumes of a run, opened over devices that were just made.
 
 ghost use Rattle.std.specs.Prelude.{ℕ, List, ◌≡◌, ◌<◌, ◌≤◌, ◌+◌, ◌++◌, ◌∷◌, [], Some, All, length, map, slice_get, replicate, IfOk};
-ghost use Rattle.diff_area.specs.Places.{blocks_for};
-ghost use Rattle.diff_area.specs.Records.{AreVolumes};
+ghost use Rattle.diff_area.specs.Format.{blocks_for, AreVolumes};
 ghost use Rattle.scenario.specs.Plan.{GroupPlan};
 ghost use Rattle.scenario.specs.Places.{blocks_in_group};
 ghost use Rattle.vss_play.specs.Played.{device_sizes};

@@ -1,7 +1,7 @@
 ghost use Rattle.std.specs.Prelude.{◌≡◌, ◌↔◌, ◌+◌, ◌<◌, ◌≤◌, ◌++◌, ◌==◌, ℕ, Some, None, not, filter};
 ghost use Rattle.std.specs.Prelude.{vec_len, vec_capacity, option_to_list, IsTrue, IfSome};
 ghost use Rattle.std.specs.List.Sorted.{IsPermutation};
-ghost use Rattle.vss_play.specs.Resting.{IsSeated, StaysWithAnother};
+ghost use Rattle.vss_play.specs.Acting.{IsSeated, StaysWithAnother};
 
 /// How many of those that moved last are asked again first.
 pub const RECENT: usize = 4;

@@ -1,7 +1,7 @@
 ghost use Rattle.std.specs.Prelude.{◌≡◌, ◌≤◌, ◌⊎◌, length, OnOk, IfOk, IsErrOf};
 ghost use Rattle.vss_names.specs.Faults.{Rose};
 ghost use Rattle.vss_play.specs.Played.{AreNamed, IsDropped, IsUndone, device_names};
-ghost use Rattle.provider.specs.Devices.{devices_of};
+ghost use Rattle.provider.specs.Groups.{devices_of};
 ghost use Rattle.vss_world.specs.Quiet.{AreNew};
 
 use crate::devices::make_devices;

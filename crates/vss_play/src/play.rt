@@ -2,8 +2,8 @@ ghost use Rattle.std.specs.Prelude.{◌≡◌, ◌+◌, ◌≤◌, ◌++◌, ◌
 ghost use Rattle.vss_names.specs.Faults.{Rose, all_counted};
 ghost use Rattle.vss_model.specs.Trail.{event_of};
 ghost use Rattle.vss_report.specs.ToldLines.{IsLineOf};
-ghost use Rattle.vss_play.specs.Digested.{AreDigests};
-ghost use Rattle.vss_play.specs.Lasting.{AreLeft};
+ghost use Rattle.vss_play.specs.Closing.{AreDigests};
+ghost use Rattle.vss_play.specs.Made.{AreLeft};
 ghost use Rattle.vss_play.specs.Running.{MayIfCan};
 ghost use Rattle.write_history.specs.declared.mark.Mark.{Mark};
 ghost use Rattle.cow_volume.specs.Calls.{NeverFails, counted_as};

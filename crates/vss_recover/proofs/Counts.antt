@@ -8,7 +8,7 @@ use Rattle.std.proofs.lemmas.List.Sorted.{length_permutation}
 use Rattle.std.proofs.lemmas.Bool.{lt-ltb, ltb-true, and_parts, and_from, not_from_false}
 use Rattle.std.proofs.lemmas.Grind.{common_steps}
 use Rattle.write_history.specs.History.{Image, names, blocks_named, sets_of, AreLater, AreInTime}
-use Rattle.diff_area.specs.Records.{free, is_free, used_in, AreRecords}
+use Rattle.diff_area.specs.Format.{free, is_free, used_in, AreRecords}
 use Rattle.diff_area.specs.declared.table_record.Record.{Record}
 use Rattle.cow_volume.specs.StandsFor.{record_of}
 use Rattle.cow_volume.specs.Calls.{is_among}

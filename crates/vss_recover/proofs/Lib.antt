@@ -1,16 +1,8 @@
-pub mod Recovered
 pub mod Overlays
-pub mod OfImages
-pub mod StepByStep
 pub mod Standing
 pub mod Counts
-pub mod Slots
-pub mod Values
-pub mod Glue
+pub mod InParts
 pub mod Taken
 pub mod UsedSlots
-pub mod Syncing
 pub mod TakenUp
-pub mod Loaded
-pub mod EntryCounts
 pub mod Passing

@@ -4,35 +4,31 @@ use Rattle.std.specs.Prelude.{slice_get, slice_set, IfSome, is_some, ◌==◌, O
 use Rattle.std.proofs.lemmas.List.Elements.{All-head, All-tail}
 use Rattle.std.proofs.lemmas.Option.{slice_get_within}
 use Rattle.std.proofs.lemmas.Grind.{common_steps}
-use Rattle.volume_device.specs.Blocks.{AreBlocks}
+use Rattle.volume_device.specs.InMemory.{AreBlocks}
 use Rattle.volume_device.specs.declared.device.Device.{Ghosts}
 use Rattle.write_history.specs.History.{History, Write, Image, content, last_bytes, names, sets_of, point_in, written, cut, dropped, reverted, reverted_in_part}
 use Rattle.diff_area.specs.AreaValue.{AreaValue}
-use Rattle.diff_area.specs.Places.{place_of_slot, blocks_for}
-use Rattle.diff_area.specs.Records.{free, used_in, AreRecords}
+use Rattle.diff_area.specs.Format.{place_of_slot, blocks_for, free, used_in, AreRecords}
 use Rattle.diff_area.specs.declared.table_record.Record.{Record}
-use Rattle.cow_volume.specs.GroupValue.{GroupValue}
-use Rattle.cow_volume.specs.StandsFor.{record_of}
+use Rattle.cow_volume.specs.StandsFor.{GroupValue, record_of}
 use Rattle.cow_volume.specs.Calls.{is_among, blocks_in}
 use Rattle.cow_volume.specs.Changes.{has_record}
 use Rattle.cow_volume.specs.OneVolume.{StandsForOne, blocks_of, image_sets, tells, IsOneWritten, IsOneUnwritten, IsOneDropped, IsOneReverted, IsOneRevertedInPart, IsOneShown}
 use Rattle.cow_volume.proofs.Group.{number_is_other}
 use Rattle.cow_volume.proofs.Writing.{slot_room}
 use Rattle.vss_recover.specs.declared.claim.Claim.{Claim}
-use Rattle.vss_recover.specs.Claims.{AreWithin, AreApart, owner_of}
+use Rattle.vss_recover.specs.Steps.{AreWithin, AreApart, owner_of, IsNewest, IsAllowed, after}
 use Rattle.vss_recover.specs.Recoveries.{Recovery, Recovering, IsOfImages, unrecovered, recovered, blocks_recovered, all_recovered, with_final, closed}
 use Rattle.vss_recover.specs.OverlayCalls.{count_in, lacks_room, IsPutIn}
 use Rattle.vss_recover.specs.RecoverValue.{RecoverValue, StandsFor, IsOverlay}
-use Rattle.vss_recover.specs.Steps.{IsNewest, IsAllowed, after}
 use Rattle.vss_recover.specs.Steps.Step.{Wrote, Evicted, Cut, Dropped, Reverted, RevertedInPart, Opened, Recovered, Closed}
 use Rattle.vss_recover.specs.Calls.{IsStep, IsSettled, IsBeside, IsSettledUpTo, IsShown}
-use Rattle.vss_recover.proofs.Recovered.{last_if_named, none_recovered}
-use Rattle.vss_recover.proofs.Overlays.{set_one, put_overlay}
-use Rattle.vss_recover.proofs.OfImages.{among_at, of_more, of_opened, of_recovered, of_closed, all_none}
-use Rattle.vss_recover.proofs.Standing.{one_of_it, sets_are, above_zero, beside_stands, settled_stands, settled_up_to_stands}
+use Rattle.vss_recover.proofs.Overlays.{last_if_named, none_recovered, set_one, put_overlay}
+use Rattle.vss_recover.proofs.Standing.{among_at, of_more, of_opened, of_recovered, of_closed, all_none, one_of_it, sets_are, above_zero, beside_stands}
+use Rattle.vss_recover.proofs.Standing.{settled_stands, settled_up_to_stands}
 use Rattle.cow_volume.proofs.Members.{AreApart as AreApartList}
 use Rattle.vss_recover.proofs.Counts.{counted_in, counted_all, apart_sets, among_has, has_slot}
-use Rattle.diff_area.proofs.Valid.{and_left, and_right}
+use Rattle.diff_area.proofs.GoodRecords.{and_left, and_right}
 use Rattle.cow_volume.proofs.Reading.{unnamed_same}
 
 -- ## at first

@@ -13,30 +13,27 @@ use Rattle.std.proofs.lemmas.List.Sums.{sum_by-cons}
 use Rattle.std.proofs.lemmas.Option.{cond_some}
 use Rattle.slot_pool.specs.Slots.{IsTaken}
 use Rattle.diff_area.specs.AreaValue.{AreaValue}
-use Rattle.diff_area.specs.Records.{free, is_free, AreRecords}
+use Rattle.diff_area.specs.Format.{free, is_free, AreRecords}
 use Rattle.diff_area.specs.declared.table_record.Record.{Record}
 use Rattle.diff_map.specs.Copies.{copied_at, copy_of, HasCopy}
-use Rattle.diff_map.specs.Index.{IsIndex, IsNoted, entry_now, place, place_of}
+use Rattle.diff_map.specs.Links.{IsIndex, IsNoted, entry_now, place, place_of}
 use Rattle.diff_map.specs.Rules.{renewed}
 use Rattle.diff_map.specs.declared.copied.Copied.{Copied}
 use Rattle.diff_map.specs.declared.entry.Entry.{Entry}
-use Rattle.diff_map.proofs.Kept.{KeepsOrder, IsIndex-renewed, copied_at-renewed}
-use Rattle.diff_map.proofs.Noting.{IsIndex-noted, room_for_one}
-use Rattle.diff_map.proofs.Places.{past_search}
+use Rattle.diff_map.proofs.Renewal.{KeepsOrder, IsIndex-renewed, copied_at-renewed}
+use Rattle.diff_map.proofs.Noting.{IsIndex-noted, room_for_one, past_search}
 use Rattle.cow_volume.specs.Calls.{is_among}
-use Rattle.cow_volume.specs.Changes.{has_record}
+use Rattle.cow_volume.specs.Changes.{has_record, followed, followed_row}
 use Rattle.cow_volume.specs.CopiesAfter.{with_records}
-use Rattle.cow_volume.specs.Followed.{followed, followed_row}
 use Rattle.cow_volume.specs.StandsFor.{record_of}
-use Rattle.cow_volume.specs.Tied.{copied_for}
-use Rattle.vss_recover.proofs.EntryCounts.{entries_count}
+use Rattle.cow_volume.specs.Parts.{copied_for}
+use Rattle.vss_recover.proofs.Passing.{entries_count, passed, still_there, noted_at}
 use Rattle.cow_volume.proofs.Merging.{has_found}
-use Rattle.cow_volume.proofs.NewCopies.{none_at}
-use Rattle.vss_recover.proofs.Passing.{passed, still_there, noted_at}
+use Rattle.cow_volume.proofs.TakingUp.{none_at}
 use Rattle.cow_volume.proofs.Renewed.{get-map, own_map}
 use Rattle.cow_volume.proofs.Rows.{copied_for-is, has_slot, record_of_row, row_of_record, used_is}
 use Rattle.cow_volume.proofs.Ties.{free_is, unnoted}
-use Rattle.vss_recover.specs.Keeping.{KeepsOverlay}
+use Rattle.vss_recover.specs.RecoverValue.{KeepsOverlay}
 use Rattle.vss_recover.specs.OverlayCalls.{count_in, is_block_of, kept_record, kept_records}
 
 -- the rows that the records of an overlay are

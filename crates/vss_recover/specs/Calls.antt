@@ -1,27 +1,32 @@
--- What the calls on a volume with recovery writes come to: of the volume beneath they say what its own calls do, and of the overlay,
--- the window and the final sets what stays and what goes. (This project's own.)
-use Rattle.std.specs.Prelude.{ℕ, ◌≡◌, ◌<◌, ◌≤◌, ◌⊎◌, zero, suc, true, false, List, length, Option, Some, None, Result, Ok, Err}
+-- What the calls on a volume with recovery writes come to, and what is said of those that were not made. (This project's own.)
+use Rattle.std.specs.Fmt.{decimal}
+use Rattle.std.specs.Prelude.{ℕ, ◌≡◌, ◌<◌, ◌≤◌, ◌⊎◌, zero, suc, true, false, List, length, Option, Some, None, Result, Ok, Err, ◌++◌, codes}
 use Rattle.vss_names.specs.Faults.{Rose}
 use Rattle.volume_device.specs.declared.device.Device.{Ghosts}
 use Rattle.write_history.specs.History.{point_in}
-use Rattle.cow_volume.specs.Calls.{IsQuiet, IsUnfailed, VolumeRose, AreaRose, IsSameDevice, is_among}
+use Rattle.cow_volume.specs.Calls.{IsQuiet, IsUnfailed, VolumeRose, AreaRose, IsSameDevice, is_among, revert_message as volume_message}
 use Rattle.cow_volume.specs.OneVolume.{blocks_of, image_sets, IsOneRevert}
 use Rattle.cow_volume.specs.declared.image_fault.ImageFault.{ImageFault}
 use Rattle.cow_volume.specs.declared.image_fault.ImageFault.TheVariants.{NoSuchImage, NoSuchBlock, Volume, Area}
 use Rattle.cow_volume.specs.declared.revert_fault.RevertFault.TheVariants.{NoSuchImage as NoImage, Fault}
+use Rattle.vss_recover.specs.Steps.{AreWithin, AreApart, IsFirstOut, IsFirstOverlap, owner_of, Step, IsNewest, IsAllowed, after}
+use Rattle.vss_recover.specs.OverlayCalls.{count_in, lacks_room, kept_records, KeepsRecords}
+use Rattle.vss_recover.specs.RecoverValue.{RecoverValue, StandsFor, all_tell}
+use Rattle.vss_recover.specs.Recoveries.{Recovering, shown, kept_window, kept_final, with_final}
+use Rattle.vss_recover.specs.Steps.Step.{Closed, Reverted, RevertedInPart}
 use Rattle.vss_recover.specs.declared.claim.Claim.{Claim}
 use Rattle.vss_recover.specs.declared.open_fault.OpenFault.{OpenFault}
 use Rattle.vss_recover.specs.declared.open_fault.OpenFault.TheVariants.{NoSuchImage as NotStanding, NotNewest, AlreadyOpen, Final, BadRange, Overlap}
+use Rattle.vss_recover.specs.declared.open_fault.OpenFault.TheVariants as opening
 use Rattle.vss_recover.specs.declared.recover_fault.RecoverFault.{RecoverFault}
 use Rattle.vss_recover.specs.declared.recover_fault.RecoverFault.TheVariants.{NotOpen, NoSuchBlock as NoBlock, NotOwner, Full, Area as OverlayFailed}
+use Rattle.vss_recover.specs.declared.recover_fault.RecoverFault.TheVariants as recover
 use Rattle.vss_recover.specs.declared.recover_revert.RecoverRevert.{RecoverRevert}
 use Rattle.vss_recover.specs.declared.recover_revert.RecoverRevert.TheVariants.{Recovered, Other}
-use Rattle.vss_recover.specs.Claims.{AreWithin, AreApart, IsFirstOut, IsFirstOverlap, owner_of}
-use Rattle.vss_recover.specs.Recoveries.{Recovering, shown, kept_window, kept_final, with_final}
-use Rattle.vss_recover.specs.Steps.{Step, IsNewest, IsAllowed, after}
-use Rattle.vss_recover.specs.Steps.Step.{Closed, Reverted, RevertedInPart}
-use Rattle.vss_recover.specs.OverlayCalls.{count_in, lacks_room, kept_records, KeepsRecords}
-use Rattle.vss_recover.specs.RecoverValue.{RecoverValue, StandsFor, all_tell}
+use Rattle.vss_recover.specs.declared.recover_revert.RecoverRevert.TheVariants as revert
+
+-- ## What the calls on a volume with recovery writes come to: of the volume beneath they say what its own calls do, and of the overlay,
+-- the window and the final sets what stays and what goes. (This project's own.)
 
 -- no set is 0, so no image has that
 abbrev pub HasImage : {D : Type 0} → RecoverValue D → ℕ → Type 0
@@ -174,3 +179,26 @@ IsRevertStep told old new set (Err (Other (Fault restored cause))) = (h : Recove
     → IsAllowed (blocks_of old.volume) h (RevertedInPart set p restored) × StandsFor told new (after (blocks_of old.volume) h (RevertedInPart set p restored))
 IsRevertStep told old new set (Err (Other NoImage)) = Unit {0}
 IsRevertStep told old new set (Err (Recovered blocks)) = Unit {0}
+
+-- ## What is said of a window that was not opened, of a recovery write that was not made, and of a volume that was not
+-- brought back to an image. (This project's own.)
+
+abbrev pub open_message : OpenFault → List ℕ
+open_message opening.NoSuchImage = codes "no such image"
+open_message (opening.NotNewest newest) = codes "the newest image is of set " ++ decimal newest
+open_message (opening.AlreadyOpen set) = codes "the window of set " ++ decimal set ++ codes " is open"
+open_message opening.Final = codes "the image is final"
+open_message (opening.BadRange claim) = codes "claim " ++ decimal claim ++ codes " is out of range"
+open_message (opening.Overlap first second) = codes "claims " ++ decimal first ++ codes " and " ++ decimal second ++ codes " overlap"
+
+abbrev pub recover_message : RecoverFault → List ℕ
+recover_message recover.NotOpen = codes "the window is not open"
+recover_message recover.NoSuchBlock = codes "no such block"
+recover_message (recover.NotOwner None) = codes "no writer claims the block"
+recover_message (recover.NotOwner (Some owner)) = codes "writer " ++ decimal owner ++ codes " claims the block"
+recover_message recover.Full = codes "the overlay is full"
+recover_message recover.Area = codes "the overlay's device failed"
+
+abbrev pub revert_message : RecoverRevert → List ℕ
+revert_message (revert.Recovered blocks) = codes "writers changed " ++ decimal blocks ++ codes " blocks of the image"
+revert_message (revert.Other fault) = volume_message fault

@@ -1,10 +1,6 @@
-pub mod Claims
-pub mod Recoveries
 pub mod Steps
+pub mod Recoveries
 pub mod RecoverValue
 pub mod Calls
-pub mod Keeping
 pub mod OverlayCalls
-pub mod Messages
 pub mod Syncing
-pub mod TakingUp

@@ -4,10 +4,9 @@ use Rattle.std.specs.List.{AllWithin, insert}
 use Rattle.vss_names.specs.Faults.{Rose}
 use Rattle.volume_device.specs.declared.device.Device.{Ghosts}
 use Rattle.diff_area.specs.AreaValue.{AreaValue}
-use Rattle.diff_area.specs.Places.{place_of_slot}
-use Rattle.diff_area.specs.Records.{free}
+use Rattle.diff_area.specs.Format.{place_of_slot, free}
 use Rattle.diff_area.specs.declared.table_record.Record.{Record}
-use Rattle.diff_map.specs.Index.{place, place_of}
+use Rattle.diff_map.specs.Links.{place, place_of}
 use Rattle.diff_map.specs.declared.entry.Entry.{Entry}
 use Rattle.cow_volume.specs.StandsFor.{record_of}
 use Rattle.cow_volume.specs.Calls.{is_among, IsSameDevice}

@@ -8,7 +8,7 @@ pub struct Claim {
 
 impl Claim {
     ghost use Rattle.std.specs.Prelude.{◌≡◌, ◌+◌};
-    ghost use Rattle.vss_recover.specs.Claims.{has_block, is_within, meet};
+    ghost use Rattle.vss_recover.specs.Steps.{has_block, is_within, meet};
 
     /// Whether the block is one of the claim's.
     pub fn has_block(self, block: u32) -> bool

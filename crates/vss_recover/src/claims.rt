@@ -1,7 +1,7 @@
 //! What is asked of the claims for a window, and which writer claimed a block.
 
 ghost use Rattle.std.specs.Prelude.{◌≡◌, ◌<◌, ◌≤◌, Some, slice_get, length, IfSome, IsNone};
-ghost use Rattle.vss_recover.specs.Claims.{AreWithin, AreApart, IsFirstOut, IsFirstOverlap, IsFirstMet, MeetsNone, owner_of};
+ghost use Rattle.vss_recover.specs.Steps.{AreWithin, AreApart, IsFirstOut, IsFirstOverlap, IsFirstMet, MeetsNone, owner_of};
 
 use crate::claim::Claim;
 

@@ -2,14 +2,14 @@
 
 ghost use Rattle.std.specs.Prelude.{◌≡◌, ◌≤◌, ◌<◌, ◌==◌, ◌&&◌, ◌^◌, [], ◌∷◌, true, false, length, map, count_by, slice_get, vec_capacity, OnOk, IfErr};
 ghost use Rattle.std.specs.List.{AllWithin};
-ghost use Rattle.diff_area.specs.Records.{AreRecords, is_free};
-ghost use Rattle.diff_map.specs.Index.{IsInOrder, IsIndex, place, place_of};
+ghost use Rattle.diff_area.specs.Format.{AreRecords, is_free};
+ghost use Rattle.diff_map.specs.Links.{IsInOrder, IsIndex, place, place_of};
 ghost use Rattle.cow_volume.specs.Calls.{is_among, sets_in};
 ghost use Rattle.cow_volume.specs.CopiesAfter.{with_records};
 ghost use Rattle.cow_volume.specs.Resuming.{AllHaveImages, HasImage};
-ghost use Rattle.cow_volume.specs.Tied.{copied_for};
+ghost use Rattle.cow_volume.specs.Parts.{copied_for};
 ghost use Rattle.vss_recover.specs.OverlayCalls.{IsNotedIn, kept_records};
-ghost use Rattle.vss_recover.specs.TakingUp.{IsRefused};
+ghost use Rattle.vss_recover.specs.Syncing.{IsRefused};
 
 use cow_volume::ResumeFault;
 use diff_area::{Area, Record};

@@ -5,11 +5,10 @@ ghost use Rattle.std.specs.Prelude.{◌≡◌, ◌<◌, ◌≤◌, ◌++◌, ◌
 ghost use Rattle.write_history.specs.History.{sets_of};
 ghost use Rattle.cow_volume.specs.Calls.{is_among};
 ghost use Rattle.cow_volume.specs.declared.resume_fault.ResumeFault.TheVariants.{OutOfMemory};
-ghost use Rattle.vss_recover.specs.Claims.{owner_of};
+ghost use Rattle.vss_recover.specs.Steps.{owner_of, Step, AreAllowed, after_all, made_since_cut, last_window, of_volume, IsMadeIn};
 ghost use Rattle.vss_recover.specs.Recoveries.{Recovery, Recovering, IsOfImages, recovered};
-ghost use Rattle.vss_recover.specs.Steps.{Step, AreAllowed, after_all, made_since_cut, last_window, of_volume, IsMadeIn};
 ghost use Rattle.vss_recover.specs.RecoverValue.{StandsFor};
-ghost use Rattle.vss_recover.specs.TakingUp.{unopened};
+ghost use Rattle.vss_recover.specs.Syncing.{unopened};
 
 use crate::recover_volume::RecoverVolume;
 use cow_volume::ResumeFault;

@@ -1,5 +1,5 @@
 ghost use Rattle.std.specs.Prelude.{Some};
-ghost use Rattle.vss_recover.specs.Messages.{open_message};
+ghost use Rattle.vss_recover.specs.Calls.{open_message};
 
 use std::error::Error;
 use std::fmt;

@@ -1,13 +1,12 @@
 ghost use Rattle.std.specs.Prelude.{◌≡◌, ◌<◌, false, List, IfSome, IsNone, IfOk, OnOk, Some, length, replicate, map, slice_get, slice_set};
 ghost use Rattle.vss_names.specs.Faults.{HasCause};
-ghost use Rattle.volume_device.specs.Blocks.{AreBlocks};
-ghost use Rattle.block_data.specs.PayloadBytes.{payload_bytes};
+ghost use Rattle.volume_device.specs.InMemory.{AreBlocks};
+ghost use Rattle.block_data.specs.BlockBytes.{payload_bytes};
 ghost use Rattle.slot_pool.specs.Slots.{IsLowestFree};
 ghost use Rattle.write_history.specs.Slots.{Copy};
 ghost use Rattle.diff_area.specs.AreaValue.{KeepsTable};
 ghost use Rattle.diff_area.specs.Copies.{AreHeld, AreStored};
-ghost use Rattle.diff_area.specs.Places.{blocks_for, place_of_slot};
-ghost use Rattle.diff_area.specs.Records.{AreRecords, IsUsed, free, is_free, used_in};
+ghost use Rattle.diff_area.specs.Format.{blocks_for, place_of_slot, AreRecords, IsUsed, free, is_free, used_in};
 ghost use Rattle.cow_volume.specs.StandsFor.{record_of};
 ghost use Rattle.cow_volume.specs.Changes.{has_record};
 ghost use Rattle.cow_volume.specs.CopiesAfter.{with_records};
@@ -38,7 +37,7 @@ pub(crate) struct Overlay<D: Device> {
 
 impl<D: Device> Model for Overlay<D> {
     ghost use Rattle.diff_area.specs.AreaValue.{AreaValue};
-    ghost use Rattle.vss_recover.specs.Keeping.{KeepsOverlay};
+    ghost use Rattle.vss_recover.specs.RecoverValue.{KeepsOverlay};
 
     ghost Value = { AreaValue D };
 

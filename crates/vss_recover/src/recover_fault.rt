@@ -1,5 +1,5 @@
 ghost use Rattle.std.specs.Prelude.{Some};
-ghost use Rattle.vss_recover.specs.Messages.{recover_message};
+ghost use Rattle.vss_recover.specs.Calls.{recover_message};
 
 use std::error::Error;
 use std::fmt;

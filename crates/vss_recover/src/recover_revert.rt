@@ -1,5 +1,5 @@
 ghost use Rattle.std.specs.Prelude.{Some};
-ghost use Rattle.vss_recover.specs.Messages.{revert_message};
+ghost use Rattle.vss_recover.specs.Calls.{revert_message};
 
 use cow_volume::RevertFault;
 use std::error::Error;

@@ -1,9 +1,9 @@
 ghost use Rattle.std.specs.Prelude.{◌≡◌, ◌<◌, ◌≤◌, ◌++◌, ◌∷◌, ◌&&◌, ◌||◌, ◌==◌, [], true, None, Some, length, replicate, slice_get, vec_capacity, not, List, All, IfOk, IfErr, OnOk};
-ghost use Rattle.block_data.specs.PayloadBytes.{payload_bytes};
+ghost use Rattle.block_data.specs.BlockBytes.{payload_bytes};
 ghost use Rattle.write_history.specs.History.{History, point_in, names};
 ghost use Rattle.write_history.specs.Slots.{used, Copy};
 ghost use Rattle.diff_area.specs.Copies.{AreHeld, AreStored};
-ghost use Rattle.diff_area.specs.Records.{free, used_in};
+ghost use Rattle.diff_area.specs.Format.{free, used_in};
 ghost use Rattle.cow_volume.specs.Calls.{IsQuiet, IsUnfailed, VolumeRose, is_among};
 ghost use Rattle.cow_volume.specs.Resuming.{AllHaveImages};
 ghost use Rattle.cow_volume.specs.OneVolume.{StandsForOne, blocks_of, image_sets, IsOneWrite, IsOneCopiedOnce, IsOneNow, HasOneCause, IsOneDropped};
@@ -12,8 +12,7 @@ ghost use Rattle.vss_recover.specs.OverlayCalls.{count_in, lacks_room};
 ghost use Rattle.vss_recover.specs.Recoveries.{IsOfImages, Recovering, unrecovered, recovered, blocks_recovered, all_recovered, with_final, kept_window};
 ghost use Rattle.vss_recover.specs.RecoverValue.{IsOverlay, RecoverValue, StandsFor};
 ghost use Rattle.vss_recover.specs.Steps.{Step};
-ghost use Rattle.vss_recover.specs.Syncing.{IsRecoverSync, KeepsSaid};
-ghost use Rattle.vss_recover.specs.TakingUp.{HasCopiesOf, IsRefused, taken_up, unopened};
+ghost use Rattle.vss_recover.specs.Syncing.{IsRecoverSync, KeepsSaid, HasCopiesOf, IsRefused, taken_up, unopened};
 
 use crate::claim::Claim;
 use crate::claims::{first_out, first_overlap, owner_of};
@@ -51,8 +50,7 @@ pub struct RecoverVolume<D: Device> {
 }
 
 impl<D: Device> Model for RecoverVolume<D> {
-    ghost use Rattle.vss_recover.specs.RecoverValue.{RecoverValue};
-    ghost use Rattle.vss_recover.specs.Keeping.{KeepsWindow};
+    ghost use Rattle.vss_recover.specs.RecoverValue.{RecoverValue, KeepsWindow};
 
     ghost Value = { RecoverValue D };
 

@@ -32,8 +32,8 @@ use Rattle.vss_report.specs.Words.{spaced, volume_text, writer_text, lane_text, 
 use Rattle.vss_report.specs.Shapes.{named, writer_named, is_number, is_answer, is_order, is_volume, is_result, marked, lane_move, writer_move, are_two, mark_of_reply, mark_of_step, mark_of_idle, move_in, is_all, then_count, is_next, kind_of_move, kind_of_words, kind_of}
 use Rattle.vss_report.specs.Legible.{IsShort, AreApart, AreNames, IsLegible, IsVolumeStep, IsStep, IsLegibleImage}
 use Rattle.vss_report.proofs.Joined.{is_free, both}
-use Rattle.vss_report.proofs.LegibleWords.{IsWord, same_bytes, are_digits, no_number, is_number_back, name_word, result_word, order_word, is_result_back, is_order_back, is_error_back}
-use Rattle.vss_report.proofs.Says.{Says, says_word, says_number, says_spaced, says_then}
+use Rattle.vss_report.proofs.LegibleWords.{IsWord, same_bytes, are_digits, no_number, is_number_back, name_word, result_word, order_word, is_result_back}
+use Rattle.vss_report.proofs.LegibleWords.{is_order_back, is_error_back, Says, says_word, says_number, says_spaced, says_then}
 
 -- ## names
 

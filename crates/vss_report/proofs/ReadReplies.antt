@@ -1,32 +1,164 @@
--- Each kind of reply, as it is told, is read with the mark of its move.
-use Rattle.std.proofs.Common.{◌≡◌, ◌∙◌, ℕ, ◌<◌, Bool, true, List, [], ◌∷◌, ◌++◌, length, map, Option, Some, None, refl, ap, sym, subst, arith}
-use Rattle.std.specs.Prelude.{All, ◌&&◌, slice_get, if◌then◌else◌, codes}
-use Rattle.std.specs.List.{list_all, concat}
-use Rattle.std.specs.Fmt.{decimal}
+-- The states of the writers and each kind of reply, as they are told, are read as such.
+use Rattle.std.proofs.Common.{◌≡◌, ℕ, zero, suc, ◌+◌, ◌<◌, List, [], ◌∷◌, ◌++◌, length, drop, get_or, refl, arith, ◌∙◌, ◌-◌, Bool, false, true, Option, ap, sym}
+use Rattle.std.proofs.Common.{find, subst, map, Some, None}
+use Rattle.std.proofs.lemmas.Grind.{common_steps}
+use Rattle.std.proofs.lemmas.List.{append_assoc, append-nil}
 use Rattle.std.proofs.lemmas.List.Elements.{All-head, All-tail}
 use Rattle.std.proofs.lemmas.Option.{slice_get-get_or}
-use Rattle.std.proofs.lemmas.Grind.{common_steps}
-use Rattle.hex.specs.Hex.{IsBytes, encode_lower}
-use Rattle.block_data.specs.Digest.{sha256}
+use Rattle.std.specs.Fmt.{decimal}
+use Rattle.std.specs.List.{range_with_len, list_all, concat}
+use Rattle.std.specs.Prelude.{slice_get, codes, ◌&&◌, All, if◌then◌else◌}
+use Rattle.std.specs.Str.{bytes_eq}
+use Rattle.hex.specs.Hex.{encode_with, IsBytes, encode_lower}
+use Rattle.vss_names.specs.Context as context
+use Rattle.vss_names.specs.Names.{is_name}
+use Rattle.vss_names.specs.VssResult as result
+use Rattle.vss_names.specs.WriterState as state
 use Rattle.vss_names.specs.declared.context.Context.{Context}
 use Rattle.vss_names.specs.declared.vss_result.VssResult.{VssResult}
-use Rattle.vss_names.specs.Context as context
-use Rattle.vss_names.specs.VssResult as result
+use Rattle.vss_names.specs.declared.writer_error.WriterError.{WriterError}
+use Rattle.vss_names.specs.declared.writer_state.WriterState.{WriterState}
+use Rattle.vss_names.proofs.LookUps.{state_of_name-name_of}
+use Rattle.block_data.specs.BlockBytes.{sha256}
 use Rattle.write_history.specs.declared.mark.Mark.{Mark}
 use Rattle.write_history.specs.declared.mark.Mark.TheVariants.{Clean, Fault, FaultAfter}
+use Rattle.writer_state.specs.WriterState.{is_failed}
 use Rattle.writer_state.specs.declared.writer_row.WriterRow.{WriterRow}
-use Rattle.vss_names.specs.Names.{is_name}
 use Rattle.scenario.specs.Plan.{Plan, WriterPlan, token}
-use Rattle.vss_model.specs.Reply.{Reply, Fine, Faulted, FaultedAfter, Numbered, Coded, NotSelectable, BlockOf, BlocksOf, KeptSets, PropertiesOf, Deleted, DocumentOf, StatusOf, Answered, Stepped, Idled}
-use Rattle.vss_report.specs.Words.{spaced, sets_text, states_text, writer_text}
+use Rattle.vss_model.specs.Reply.{Reply, Fine, Faulted, FaultedAfter, Numbered, Coded, NotSelectable, BlockOf, BlocksOf, KeptSets, PropertiesOf, Deleted}
+use Rattle.vss_model.specs.Reply.{DocumentOf, StatusOf, Answered, Stepped, Idled}
+use Rattle.vss_report.specs.Legible.{HasItsCode, has_its_code, IsShort, AreNames, IsLaneReply}
 use Rattle.vss_report.specs.Report.{IsReplyText}
-use Rattle.vss_report.specs.Shapes.{is_number, is_hex, is_result, is_all, then_count, mark_of_reply}
-use Rattle.vss_report.specs.Legible.{IsShort, AreNames, HasItsCode, IsLaneReply}
-use Rattle.vss_report.proofs.Joined.{both}
-use Rattle.vss_report.proofs.LegibleWords.{number_back, is_number_back, is_hex_back, hex_word, result_word, is_result_back}
-use Rattle.vss_report.proofs.DigestBytes.{IsDigest, digest_if, digest_told, first_if}
-use Rattle.vss_report.proofs.Says.{Says, says_word, says_number, says_spaced, says_then, says_sets}
-use Rattle.vss_report.proofs.ReadStates.{says_states}
+use Rattle.vss_report.specs.Shapes.{is_state_of, are_states, is_code, is_state, is_named_state, is_number, is_hex, is_result, is_all, then_count, mark_of_reply}
+use Rattle.vss_report.specs.Words.{spaced, writer_in, state_text, states_text, code_word, code_text, sets_text, writer_text}
+use Rattle.vss_report.proofs.Joined.{IsDigest, digest_if, digest_told, first_if, is_free, free_append, alone, joined, both}
+use Rattle.vss_report.proofs.LegibleWords.{IsWord, same_bytes, name_word, name_free, number_back, is_number_back, is_hex_back, hex_word, result_word}
+use Rattle.vss_report.proofs.LegibleWords.{is_result_back, Says, says_word, says_spaced, says_number, says_then, says_sets}
+
+-- ## The states of the writers from one on: its own, and those of the writers after it.
+
+-- the text of one writer's state
+abbrev own : Plan → List WriterPlan → ℕ → WriterRow → List ℕ
+own s ws w row = spaced (writer_in s (slice_get ws w)) ++ codes "=" ++ state_text row
+
+from_writer : (s : Plan) (ws : List WriterPlan) (rows : List WriterRow) (w : ℕ) (d : WriterRow) → w < length rows → length rows ≡ length ws
+    → states_text s (drop w ws) (drop w rows) ≡ own s ws w (get_or rows w d) ++ states_text s (drop (suc w) ws) (drop (suc w) rows)
+from_writer s ws [] w d h e = absurd (omega arith)
+from_writer s [] (r ∷ rows) w d h e = absurd (omega (arith, e))
+from_writer s (x ∷ ws) (r ∷ rows) zero d h e = refl
+from_writer s (x ∷ ws) (r ∷ rows) (suc w) d h e = from_writer s ws rows w d (omega (arith, h)) (omega (arith, e))
+
+pub more_states : (s : Plan) (ws : List WriterPlan) (rows : List WriterRow) (w : ℕ) (d : WriterRow) (before after whole : List ℕ)
+    → w < length rows → length rows ≡ length ws
+    → after ≡ before ++ spaced (writer_in s (slice_get ws w)) ++ codes "=" ++ state_text (get_or rows w d)
+    → before ++ states_text s (drop w ws) (drop w rows) ≡ whole
+    → after ++ states_text s (drop (w + 1) ws) (drop (w + 1) rows) ≡ whole
+more_states s ws rows w d before after whole h e is all = grind (arith, from_writer, append_assoc)
+
+-- ## The states of the writers as they are read back, one writer after the other; and the first of so many things with a name.
+
+-- the state of the writer with this name, and those of the writers after it
+abbrev next_state : Plan → List ℕ → List WriterPlan → List (List ℕ) → Bool
+next_state s name ws [] = false
+next_state s name ws (word ∷ more) = is_state_of name word && are_states s ws more
+
+words_from_writer : (s : Plan) (ws : List WriterPlan) (w : ℕ) (words : List (List ℕ)) → w < length ws
+    → are_states s (drop w ws) words ≡ next_state s (writer_in s (slice_get ws w)) (drop (suc w) ws) words
+words_from_writer s [] w words h = absurd (omega arith)
+words_from_writer s (x ∷ ws) zero [] h = refl
+words_from_writer s (x ∷ ws) zero (word ∷ more) h = refl
+words_from_writer s (x ∷ ws) (suc w) words h = words_from_writer s ws w words (omega arith)
+
+pub no_state : (s : Plan) (ws : List WriterPlan) (w : ℕ) (words : List (List ℕ)) (whole : Bool) → w < length ws → words ≡ []
+    → whole ≡ are_states s (drop w ws) words → false ≡ whole
+no_state s ws w words whole h none e = sym (e ∙ words_from_writer s ws w words h ∙ ap (next_state s (writer_in s (slice_get ws w)) (drop (suc w) ws)) none)
+
+pub no_such_state : (s : Plan) (ws : List WriterPlan) (w : ℕ) (words : List (List ℕ)) (name word : List ℕ) (more : List (List ℕ)) (whole is : Bool) → w < length ws
+    → words ≡ word ∷ more → name ≡ writer_in s (slice_get ws w) → is ≡ is_state_of name word → is ≡ false
+    → whole ≡ are_states s (drop w ws) words → false ≡ whole
+no_such_state s ws w words name word more whole is h some named told other e = grind (arith, words_from_writer)
+
+pub one_state : (s : Plan) (ws : List WriterPlan) (w : ℕ) (words : List (List ℕ)) (name word : List ℕ) (more : List (List ℕ)) (whole is : Bool) → w < length ws
+    → words ≡ word ∷ more → name ≡ writer_in s (slice_get ws w) → is ≡ is_state_of name word → is ≡ true
+    → whole ≡ are_states s (drop w ws) words → whole ≡ are_states s (drop (w + 1) ws) more
+one_state s ws w words name word more whole is h some named told so e = let next : w + 1 ≡ suc w = omega arith in grind (arith, common_steps, words_from_writer)
+
+from_next : (name_of : ℕ → List ℕ) (name : List ℕ) (i n k : ℕ) → n ≡ suc k → bytes_eq (name_of i) name ≡ false
+    → find (λ j. bytes_eq (name_of j) name) (range_with_len i n) ≡ find (λ j. bytes_eq (name_of j) name) (range_with_len (i + 1) k)
+from_next name_of name i n k e other = grind arith
+
+-- it is none of those up to here
+pub next_named : (name_of : ℕ → List ℕ) (name own : List ℕ) (i count : ℕ) (whole : Option ℕ) → i < count → own ≡ name_of i → bytes_eq own name ≡ false
+    → whole ≡ find (λ j. bytes_eq (name_of j) name) (range_with_len i (count - i))
+    → whole ≡ find (λ j. bytes_eq (name_of j) name) (range_with_len (i + 1) (count - (i + 1)))
+next_named name_of name own i count whole h is other e = grind (arith, from_next)
+
+-- ## The states of the writers, as they are told, are read as such.
+
+-- a text that is free of spaces, newlines and the signs in a state
+record IsPart (part : List ℕ) : Type 0 where
+  pub word : IsWord part
+  pub equals : is_free 61 part ≡ true
+  pub slash : is_free 47 part ≡ true
+
+state_part : (st : WriterState) → IsPart (state.name_of st)
+state_part st = grind arith
+
+code_part : (e : WriterError) → IsPart (code_word e)
+unfolding encode_with
+code_part e = grind arith
+
+is_code_back : (e : WriterError) → is_code (code_word e) ≡ true
+unfolding encode_with
+is_code_back e = grind arith
+
+-- ## a state
+
+coded : (st : WriterState) (code : Option WriterError) → has_its_code code (is_failed st) ≡ true
+    → (IsWord (state.name_of st ++ code_text code)) × (is_free 61 (state.name_of st ++ code_text code) ≡ true) × (is_state (state.name_of st ++ code_text code) ≡ true)
+coded st code h = grind (arith, append-nil, state_part, alone, state_of_name-name_of, code_part, free_append, joined, is_code_back)
+
+-- ## the state of a writer
+
+named_state : (name : List ℕ) (r : WriterRow) → is_name name ≡ true → HasItsCode r → (IsWord (name ++ codes "=" ++ state_text r)) × (is_state_of name (name ++ codes "=" ++ state_text r) ≡ true)
+named_state name r h has =
+    let c = coded r.state r.code has in
+    let text : (name ++ codes "=") ++ state_text r ≡ name ++ (61 ∷ state_text r) = append_assoc name (codes "=") (state_text r) in (
+      record {
+        space = ap (is_free 32) text ∙ free_append 32 name (61 ∷ state_text r) (name_word name h).space c.0.space;
+        line = ap (is_free 10) text ∙ free_append 10 name (61 ∷ state_text r) (name_word name h).line c.0.line;
+      },
+      ap (is_state_of name) text
+          ∙ ap (is_named_state name) (joined 61 name (state_text r) (name_free name h) ∙ ap (λ ps. name ∷ ps) (alone 61 (state_text r) c.1))
+          ∙ both (bytes_eq name name) (is_state (state_text r) && true) (same_bytes name) (both (is_state (state_text r)) true c.2 refl),
+    )
+
+-- ## all states
+
+pub record SaysStates (s : Plan) (ws : List WriterPlan) (text : List ℕ) (before : List (List ℕ)) : Type 0 where
+  pub words : List (List ℕ)
+  pub says : Says text (before ++ words)
+  pub are : are_states s ws words ≡ true
+
+pub says_states : (s : Plan) (ws : List WriterPlan) (rows : List WriterRow) (a : List ℕ) (before : List (List ℕ)) → Says a before
+    → All (λ (w : WriterPlan). is_name (token s w.name) ≡ true) ws → length rows ≡ length ws → All HasItsCode rows
+    → SaysStates s ws (a ++ states_text s ws rows) before
+says_states s [] [] a before h named many has = grind (arith, common_steps, append-nil)
+says_states s [] (r ∷ rows) a before h named many has = absurd (omega (arith, many))
+says_states s (w ∷ ws) [] a before h named many has = absurd (omega (arith, many))
+says_states s (w ∷ ws) (r ∷ rows) a before h named many has =
+    let name : List ℕ = token s w.name in
+    let word : List ℕ = name ++ codes "=" ++ state_text r in
+    let own = named_state name r (All-head (λ (x : WriterPlan). is_name (token s x.name) ≡ true) w ws named) (All-head HasItsCode r rows has) in
+    let more = says_states s ws rows (a ++ spaced word) (before ++ word ∷ []) (says_spaced a word before (word ∷ []) h (says_word word own.0))
+    (All-tail (λ (x : WriterPlan). is_name (token s x.name) ≡ true) w ws named) (omega (arith, many)) (All-tail HasItsCode r rows has) in
+    record {
+      words = word ∷ more.words;
+      says = subst (λ text. Says text (before ++ word ∷ more.words)) (append_assoc a (spaced word) (states_text s ws rows)) (subst (Says (a ++ spaced word ++ states_text s ws rows)) (append_assoc before (word ∷ []) more.words) more.says);
+      are = both (is_state_of name word) (are_states s ws more.words) own.1 more.are;
+    }
+
+-- ## Each kind of reply, as it is told, is read with the mark of its move.
 
 -- a text is read as a reply with this mark
 pub record IsReadAs (s : Plan) (text : List ℕ) (mark : Mark) : Type 0 where

@@ -1,40 +1,73 @@
--- The report of a trail is read as that trail: line by line, and move by move.
-use Rattle.std.proofs.Common.{◌≡◌, ◌∙◌, ℕ, ◌+◌, ◌^◌, ◌<◌, ◌≤◌, Bool, true, false, List, [], ◌∷◌, ◌++◌, length, Option, Some, None, Result, Ok, Err, refl, ap, sym, subst, arith}
-use Rattle.std.specs.Prelude.{All, not, if◌then◌else◌, codes}
-use Rattle.std.specs.List.{flat_map}
-use Rattle.std.specs.Fmt.{decimal}
+-- The report of a trail is read as that trail, and tells its moves: line by line, and move by move.
+use Rattle.std.proofs.Common.{◌≡◌, ℕ, ◌+◌, List, [], ◌∷◌, Bool, arith, ◌∙◌, ◌^◌, ◌<◌, ◌≤◌, true, false, ◌++◌, length, Option, Some, None, Result, Ok, Err, refl}
+use Rattle.std.proofs.Common.{ap, sym, subst}
+use Rattle.std.proofs.lemmas.Grind.{common_steps}
 use Rattle.std.proofs.lemmas.List.{append_assoc, append-nil, length-append}
 use Rattle.std.proofs.lemmas.List.Elements.{All-head, All-tail}
-use Rattle.std.proofs.lemmas.Grind.{common_steps}
-use Rattle.vss_names.specs.declared.order.Order.{Order}
+use Rattle.std.specs.Fmt.{decimal}
+use Rattle.std.specs.List.{flat_map}
+use Rattle.std.specs.Prelude.{if◌then◌else◌, All, not, codes}
 use Rattle.vss_names.specs.Order as order
-use Rattle.write_history.specs.declared.evicted.Evicted.{Evicted}
+use Rattle.vss_names.specs.declared.order.Order.{Order}
 use Rattle.write_history.specs.declared.actor.Actor.{Actor}
 use Rattle.write_history.specs.declared.actor.Actor.TheVariants.{Lane, Writer, Advance, Idle}
+use Rattle.write_history.specs.declared.evicted.Evicted.{Evicted}
 use Rattle.write_history.specs.declared.mark.Mark.{Mark}
 use Rattle.write_history.specs.declared.move_item.Move.{Move as Step}
 use Rattle.write_history.specs.declared.trail.TheConstants.{MOST_MOVES}
 use Rattle.scenario.specs.Plan.{Plan, LaneLine}
-use Rattle.vss_model.specs.declared.event.Event.{Event}
-use Rattle.vss_model.specs.Reply.{Reply, Answered, Stepped, Idled}
-use Rattle.vss_model.specs.State.{State, SetRow}
 use Rattle.vss_model.specs.Acts.{Act, reply}
 use Rattle.vss_model.specs.Effects.{evicted, lost, lost_order, ended}
+use Rattle.vss_model.specs.Reply.{Reply, Answered, Stepped, Idled}
+use Rattle.vss_model.specs.State.{State, SetRow}
 use Rattle.vss_model.specs.Trail.{Run, begin, run, run_from, event_of, act_of, moved, cursor, next_line}
+use Rattle.vss_model.specs.declared.event.Event.{Event}
 use Rattle.vss_model.proofs.Appending.{moves-run}
-use Rattle.vss_report.specs.declared.line_kind.LineKind.TheVariants.{Move, Effect, End}
+use Rattle.vss_report.specs.Legible.{IsShort, IsLegible, IsWriterReply, IsStepReply, IsIdleReply, IsReplyTo, IsLegibleImage, IsLegibleEnd, IsLegibleAct}
+use Rattle.vss_report.specs.Legible.{IsLegibleEvent, IsLegibleMove, AreLegible, IsLegibleTrail}
 use Rattle.vss_report.specs.Pieces.{pieces, is_over}
+use Rattle.vss_report.specs.ReadBack.{next_number, goes_on, read_from, after_first, reading_back, tells_on, moves_from, moves_after_first, moves_told}
+use Rattle.vss_report.specs.Report.{IsReplyText, IsActText, IsTextOf, IsLines, IsReport, number_in, actor_text, lost_texts, ended_text, effects_text, move_text}
+use Rattle.vss_report.specs.Report.{first_line, end_text, writers_text}
+use Rattle.vss_report.specs.Shapes.{kind_of, move_in}
 use Rattle.vss_report.specs.Words.{spaced, as_line, lane_text, writer_text, answer_text, evicted_text, lost_text}
-use Rattle.vss_report.specs.Report.{IsReplyText, IsActText, IsTextOf, IsLines, IsReport, number_in, actor_text, lost_texts, ended_text, effects_text, move_text, first_line, end_text, writers_text}
-use Rattle.vss_report.specs.ReadBack.{next_number, goes_on, read_from, after_first, reading_back}
-use Rattle.vss_report.specs.Shapes.{move_in, kind_of}
-use Rattle.vss_report.specs.Legible.{IsShort, IsLegible, IsWriterReply, IsStepReply, IsIdleReply, IsReplyTo, IsLegibleImage, IsLegibleEnd, IsLegibleAct, IsLegibleEvent, IsLegibleMove, AreLegible, IsLegibleTrail}
-use Rattle.vss_report.proofs.Joined.{is_free, joined}
-use Rattle.vss_report.proofs.Parting.{pieces_are_some}
-use Rattle.vss_report.proofs.LegibleWords.{name_word}
-use Rattle.vss_report.proofs.Says.{Says, says_word, says_number, says_spaced}
+use Rattle.vss_report.specs.declared.line_kind.LineKind.{LineKind}
+use Rattle.vss_report.specs.declared.line_kind.LineKind.TheVariants.{Move, Effect, End}
+use Rattle.vss_report.proofs.Joined.{is_free, joined, pieces_are_some}
+use Rattle.vss_report.proofs.LegibleWords.{name_word, Says, says_word, says_number, says_spaced}
+use Rattle.vss_report.proofs.ReadLines.{lane_back, writer_back, says_answer, step_back, idle_back, IsReadLine, move_line, evicted_line, lost_line, set_line}
+use Rattle.vss_report.proofs.ReadLines.{end_line}
 use Rattle.vss_report.proofs.ReadReplies.{read_reply}
-use Rattle.vss_report.proofs.ReadLines.{lane_back, writer_back, says_answer, step_back, idle_back, IsReadLine, move_line, evicted_line, lost_line, set_line, end_line}
+
+-- ## A text that is a report tells the moves of its trail.
+
+-- one line of them, where what comes after it agrees
+on_line : (number : ℕ) (moves all : List Step) (more : List Step → Result (List Step) ℕ) (on : List Step → List Step) (kind : LineKind)
+    → ((ms : List Step) → more ms ≡ Ok all → on ms ≡ all) → goes_on number moves more kind ≡ Ok all → tells_on moves on kind ≡ all
+on_line number moves all more on kind agree h = grind arith
+
+over_or : (last : Bool) (number : ℕ) (moves all : List Step) (more : Result (List Step) ℕ) (on : List Step) → (more ≡ Ok all → on ≡ all)
+    → (if last then Err number else more) ≡ Ok all → (if last then moves else on) ≡ all
+over_or last number moves all more on agree h = grind arith
+
+moves_from_are : (s : Plan) (number : ℕ) (moves all : List Step) (ps : List (List ℕ)) → read_from s number moves ps ≡ Ok all → moves_from s moves ps ≡ all
+moves_from_are s number moves all [] h = cc
+moves_from_are s number moves all (line ∷ rest) h =
+    let kind = kind_of s (next_number moves) line in
+    over_or (is_over rest) number moves all (goes_on number moves (λ ms. read_from s (number + 1) ms rest) kind) (tells_on moves (λ ms. moves_from s ms rest) kind)
+    (on_line number moves all (λ ms. read_from s (number + 1) ms rest) (λ ms. moves_from s ms rest) kind (λ ms. moves_from_are s (number + 1) ms all rest)) h
+
+first_or : (is : Bool) (all more : List Step) (read : Result (List Step) ℕ) → (read ≡ Ok all → more ≡ all) → (if is then read else Err 1) ≡ Ok all → (if is then more else []) ≡ all
+first_or is all more read agree h = grind arith
+
+after_first_are : (s : Plan) (all : List Step) (ps : List (List ℕ)) → after_first s ps ≡ Ok all → moves_after_first s ps ≡ all
+after_first_are s all ps h = grind (arith, first_or, moves_from_are)
+
+pub moves_are : (s : Plan) (text : List ℕ) (all : List Step) → reading_back s text ≡ Ok all → moves_told s text ≡ all
+unfolding reading_back moves_told
+moves_are s text all h = after_first_are s all (pieces 10 text) h
+
+-- ## The report of a trail is read as that trail: line by line, and move by move.
 
 -- ## line by line
 

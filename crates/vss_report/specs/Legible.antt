@@ -2,26 +2,31 @@
 -- answered has a form of its own, the report of a trail tells that trail and no other. (This project's own.)
 use Rattle.std.specs.Prelude.{ℕ, ◌≡◌, ◌<◌, ◌≤◌, ◌^◌, Bool, true, false, List, [], ◌∷◌, length, take, All, Option, Some, None, slice_get, not}
 use Rattle.hex.specs.Hex.{IsBytes}
+use Rattle.vss_names.specs.Names.{is_name}
 use Rattle.vss_names.specs.declared.writer_error.WriterError.{WriterError}
-use Rattle.writer_state.specs.declared.writer_row.WriterRow.{WriterRow}
-use Rattle.writer_state.specs.WriterState.{is_failed}
-use Rattle.write_history.specs.declared.evicted.Evicted.{Evicted}
 use Rattle.write_history.specs.declared.actor.Actor.{Actor}
 use Rattle.write_history.specs.declared.actor.Actor.TheVariants.{Lane, Writer, Advance, Idle}
+use Rattle.write_history.specs.declared.evicted.Evicted.{Evicted}
 use Rattle.write_history.specs.declared.mark.Mark.{Mark}
 use Rattle.write_history.specs.declared.mark.Mark.TheVariants.{Clean, Fault, FaultAfter}
 use Rattle.write_history.specs.declared.move_item.Move.{Move}
 use Rattle.write_history.specs.declared.trail.TheConstants.{MOST_MOVES}
+use Rattle.writer_state.specs.WriterState.{is_failed}
+use Rattle.writer_state.specs.declared.writer_row.WriterRow.{WriterRow}
 use Rattle.set_agenda.specs.declared.group.Group.{Group}
 use Rattle.set_agenda.specs.declared.group.Group.TheVariants.{Orders, PreCommit, Flush, Hold, Cut, Commit, Release, PostCommit}
-use Rattle.vss_names.specs.Names.{is_name}
 use Rattle.scenario.specs.Plan.{Plan, LaneLine, lines_of}
-use Rattle.vss_model.specs.declared.event.Event.{Event}
-use Rattle.vss_model.specs.Reply.{Reply, Fine, Faulted, FaultedAfter, Numbered, Coded, NotSelectable, BlockOf, BlocksOf, KeptSets, PropertiesOf, Deleted, DocumentOf, StatusOf, Answered, Stepped, Idled}
-use Rattle.vss_model.specs.State.{State, SetRow, is_running}
 use Rattle.vss_model.specs.Acts.{Act, reply}
 use Rattle.vss_model.specs.Effects.{evicted, lost, ended}
-use Rattle.vss_model.specs.Trail.{Run, begin, run, event_of, act_of, moved}
+use Rattle.vss_model.specs.Outcome.{IsOutcome, mark_of}
+use Rattle.vss_model.specs.Reply.{Reply, Fine, Faulted, FaultedAfter, Numbered, Coded, NotSelectable, BlockOf, BlocksOf, KeptSets, PropertiesOf, Deleted}
+use Rattle.vss_model.specs.Reply.{DocumentOf, StatusOf, Answered, Stepped, Idled}
+use Rattle.vss_model.specs.State.{State, SetRow, is_running}
+use Rattle.vss_model.specs.Trail.{Run, begin, run, event_of, act_of, moved, is_legal_move}
+use Rattle.vss_model.specs.declared.event.Event.{Event}
+use Rattle.vss_model.specs.declared.outcome.Outcome.{Outcome}
+use Rattle.vss_model.specs.declared.told.Told.{Told}
+use Rattle.vss_model.specs.declared.told.Told.TheVariants as told
 use Rattle.vss_report.specs.Words.{volume_text, writer_text, lane_text}
 
 -- ## the scenario
@@ -150,3 +155,29 @@ pub record IsLegibleTrail (s : Plan) (tells : List Bool) (trail : List Move) : T
   pub moves : AreLegible s tells (begin s) trail
   pub few : length trail ≤ MOST_MOVES
   pub clock : IsShort (run s trail).state.clock
+
+-- ## What a program tells of a legal move is legible, since its numbers have at most eight bytes. (This project's own.)
+
+abbrev pub IsShortTold : Told → List ℕ → Type 0
+IsShortTold (told.Set n) listed = IsShort n
+IsShortTold (told.Block first digest) listed = (length first ≡ 8) × IsBytes first
+IsShortTold told.Images listed = All IsShort listed
+IsShortTold (told.Properties c cut used) listed = IsShort cut × IsShort used
+IsShortTold (told.Deleted n) listed = IsShort n
+IsShortTold (told.Document n digest) listed = IsShort n
+IsShortTold (told.Ticks n) listed = IsShort n
+IsShortTold _ listed = Unit {0}
+
+abbrev pub AreShortSets : List Evicted → Type 0
+AreShortSets evicted = All (λ (e : Evicted). IsShort e.set) evicted
+
+pub record AreShort (o : Outcome) (listed : List ℕ) (evicted : List Evicted) : Type 0 where
+  pub told_is : IsShortTold o.told listed
+  pub evicted_are : AreShortSets evicted
+  pub set_is : IsShort o.set
+
+-- wherever this outcome is what a legal move comes to, and writers' failures have their codes, the move is legible
+abbrev pub IsLegibleAs : Plan → Move → Outcome → List ℕ → List Evicted → List WriterRow → Type 0
+IsLegibleAs s m o listed evicted rows =
+    (tells : List Bool) (r : Run) (event : Event) → event_of s r m.actor ≡ Some event → m.mark ≡ mark_of o.told
+    → IsOutcome tells s r.state event o listed evicted rows → is_legal_move s r m ≡ true → All HasItsCode r.state.course.rows → IsLegibleMove s tells r m

@@ -5,7 +5,7 @@ use Rattle.std.specs.Prelude.{ℕ, ◌+◌, ◌≡◌, Bool, List, [], ◌∷◌
 use Rattle.std.specs.List.{flat_map, concat}
 use Rattle.std.specs.Fmt.{decimal}
 use Rattle.hex.specs.Hex.{encode_lower}
-use Rattle.block_data.specs.Digest.{sha256}
+use Rattle.block_data.specs.BlockBytes.{sha256}
 use Rattle.vss_names.specs.Context as context
 use Rattle.vss_names.specs.VssResult as result
 use Rattle.vss_names.specs.Order as order
@@ -23,7 +23,7 @@ use Rattle.vss_model.specs.Reply.{Reply, Fine, Faulted, FaultedAfter, Numbered, 
 use Rattle.vss_model.specs.State.{State, SetRow, kept}
 use Rattle.vss_model.specs.Acts.{Act, reply}
 use Rattle.vss_model.specs.Effects.{evicted, lost, lost_order, ended}
-use Rattle.vss_model.specs.Told.{IsDigestIf, IsFirstIf}
+use Rattle.vss_model.specs.Outcome.{IsDigestIf, IsFirstIf}
 use Rattle.vss_model.specs.Trail.{Run, begin, run, event_of, act_of, moved, next_line}
 use Rattle.vss_report.specs.Words.{spaced, as_line, volume_text, writer_text, lane_text, answer_text, step_text, of_volume, fault_if, sets_text, state_text, states_text, evicted_text, lost_text, set_text}
 

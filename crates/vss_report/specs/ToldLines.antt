@@ -1,30 +1,41 @@
--- The lines that a program writes of a move and at the end, from what it was told. (This project's own.)
-use Rattle.std.specs.Prelude.{ℕ, ◌+◌, ◌*◌, ◌≡◌, ◌<◌, ◌≤◌, ◌==◌, if◌then◌else◌, Bool, List, [], ◌++◌, length, All, Option, Some, None, codes}
-use Rattle.std.specs.List.{flat_map}
+-- The lines that a program writes from what it was told; and the report where every device tells its blocks: one text. (This project's own.)
 use Rattle.std.specs.Fmt.{decimal}
+use Rattle.std.specs.List.{flat_map, concat}
+use Rattle.std.specs.Prelude.{ℕ, ◌+◌, ◌*◌, ◌≡◌, ◌<◌, ◌≤◌, ◌==◌, if◌then◌else◌, Bool, List, [], ◌++◌, length, All, Option, Some, None, codes, true, ◌∷◌, take}
+use Rattle.std.specs.Prelude.{map}
 use Rattle.hex.specs.Hex.{encode_lower}
 use Rattle.vss_names.specs.Context as context
-use Rattle.vss_names.specs.VssResult as result
 use Rattle.vss_names.specs.Order as order
+use Rattle.vss_names.specs.VssResult as result
 use Rattle.vss_names.specs.declared.set_outcome.SetOutcome.{SetOutcome}
-use Rattle.writer_state.specs.declared.writer_row.WriterRow.{WriterRow}
-use Rattle.write_history.specs.declared.evicted.Evicted.{Evicted}
+use Rattle.block_data.specs.BlockBytes.{sha256}
+use Rattle.write_history.specs.History.{Image, History, contents}
+use Rattle.write_history.specs.Slots.{used}
 use Rattle.write_history.specs.declared.actor.Actor.{Actor}
 use Rattle.write_history.specs.declared.actor.Actor.TheVariants.{Lane, Writer, Advance, Idle}
+use Rattle.write_history.specs.declared.evicted.Evicted.{Evicted}
+use Rattle.write_history.specs.declared.mark.Mark.{Mark}
 use Rattle.write_history.specs.declared.move_item.Move.{Move}
+use Rattle.writer_state.specs.declared.writer_row.WriterRow.{WriterRow}
 use Rattle.set_agenda.specs.WriterSet.{writers_of}
 use Rattle.scenario.specs.Plan.{Plan, slots_of}
+use Rattle.scenario.specs.declared.volume_row.VolumeRow.{VolumeRow}
+use Rattle.vss_model.specs.Acts.{reply}
+use Rattle.vss_model.specs.Outcome.{IsOutcome, mark_of}
+use Rattle.vss_model.specs.Reply.{Reply, BlockOf, BlocksOf}
+use Rattle.vss_model.specs.State.{State, kept}
+use Rattle.vss_model.specs.Trail.{Run, event_of, next_line, begin, run, act_of, moved}
 use Rattle.vss_model.specs.declared.closing_row.ClosingRow.{ClosingRow}
 use Rattle.vss_model.specs.declared.closing_row.ClosingRow.TheVariants as closing
 use Rattle.vss_model.specs.declared.event.Event.{Event}
 use Rattle.vss_model.specs.declared.outcome.Outcome.{Outcome}
 use Rattle.vss_model.specs.declared.told.Told.{Told}
 use Rattle.vss_model.specs.declared.told.Told.TheVariants as told
-use Rattle.vss_model.specs.Outcome.{IsOutcome}
-use Rattle.vss_model.specs.Told.{mark_of}
-use Rattle.vss_model.specs.Trail.{Run, event_of, next_line}
-use Rattle.vss_report.specs.Words.{spaced, as_line, volume_text, writer_text, lane_text, answer_text, step_text, of_volume, fault_if, sets_text, state_text, states_text, evicted_text, lost_text, set_text}
-use Rattle.vss_report.specs.Report.{IsMoveText, number_in}
+use Rattle.vss_report.specs.Report.{IsMoveText, number_in, reply_with, first_line, move_text, end_text, writers_text}
+use Rattle.vss_report.specs.Words.{spaced, as_line, volume_text, writer_text, lane_text, answer_text, step_text, of_volume, fault_if, sets_text, state_text}
+use Rattle.vss_report.specs.Words.{states_text, evicted_text, lost_text, set_text}
+
+-- ## The lines that a program writes of a move and at the end, from what it was told. (This project's own.)
 
 -- ## a move
 
@@ -125,3 +136,57 @@ IsClosingRow s (closing.End moves clock) = Unit {0}
 IsClosingRow s (closing.Volume v used digest) = v < length s.volumes
 IsClosingRow s (closing.Image set v digest) = v < length s.volumes
 IsClosingRow s (closing.Writer w row) = w < length s.writers
+
+-- ## The report where every device tells its blocks: one text.
+
+abbrev pub first_of : Reply → List ℕ
+first_of (BlockOf v bytes) = take 8 bytes
+first_of _ = []
+
+abbrev pub digest_of : Reply → List ℕ
+digest_of (BlockOf v bytes) = sha256 bytes
+digest_of (BlocksOf v blocks) = sha256 (concat blocks)
+digest_of _ = []
+
+abbrev pub told_reply : Plan → Reply → List ℕ
+told_reply s reply = reply_with s (first_of reply) (digest_of reply) reply
+
+abbrev pub told_event : Plan → Run → Actor → Option Event → Mark → List ℕ
+told_event s r actor None mark = []
+told_event s r actor (Some event) mark = move_text s r actor (act_of mark event) (told_reply s (reply s r.state (act_of mark event)))
+
+abbrev pub told_move : Plan → Run → Move → List ℕ
+told_move s r m = told_event s r m.actor (event_of s r m.actor) m.mark
+
+abbrev pub told_moves : Plan → Run → List Move → List ℕ
+told_moves s r [] = []
+told_moves s r (m ∷ ms) = told_move s r m ++ told_moves s (moved s r m) ms
+
+abbrev pub told_volume : Plan → ℕ → VolumeRow → History → List ℕ
+told_volume s v row h =
+    as_line (codes "volume " ++ volume_text s v ++ codes " used " ++ decimal (used row.blocks h.writes h.images) ++ codes " of " ++ decimal row.slots
+    ++ spaced (encode_lower (sha256 (concat (contents row.blocks h.writes (length h.writes))))))
+
+abbrev pub told_image : Plan → ℕ → VolumeRow → History → Image → List ℕ
+told_image s v row h i =
+    as_line (codes "image " ++ decimal i.set ++ spaced (volume_text s v) ++ spaced (encode_lower (sha256 (concat (contents row.blocks h.writes i.point)))))
+
+abbrev pub told_images : Plan → ℕ → VolumeRow → History → List Image → List ℕ
+told_images s v row h [] = []
+told_images s v row h (i ∷ is) = told_image s v row h i ++ told_images s v row h is
+
+abbrev pub told_volumes : Plan → State → ℕ → List VolumeRow → List History → List ℕ
+told_volumes s st v [] hs = []
+told_volumes s st v (row ∷ rows) [] = []
+told_volumes s st v (row ∷ rows) (h ∷ hs) =
+    told_volume s v row h ++ told_images s v row h (kept st h) ++ told_volumes s st (v + 1) rows hs
+
+abbrev pub told_closing : Plan → Run → List ℕ
+told_closing s r = end_text r ++ told_volumes s r.state 0 s.volumes r.state.volumes ++ writers_text s s.writers r.state.course.rows
+
+abbrev pub told_report : Plan → List Move → List ℕ
+told_report s trail = first_line ++ told_moves s (begin s) trail ++ told_closing s (run s trail)
+
+-- every device tells
+abbrev pub all_tell : Plan → List Bool
+all_tell s = map (λ _. true) s.volumes

@@ -84,7 +84,7 @@ pub fn add_end(out: &mut Text, set: u32, outcome: SetOutcome)
 }
 
 /// Appends the line of a writer, where its bit says that it was lost.
-#[tactic(auto, using(crate::proofs::Losses::bit_is))]
+#[tactic(auto, using(crate::proofs::Telling::bit_is))]
 fn add_lost_if(scenario: &Scenario, order: Order, lost: u64, writer: u32, out: &mut Text)
     requires below { writer < 64 }
     requires range { All (λ w. w < length scenario.now.writers) (writers_of lost) }
@@ -98,7 +98,7 @@ fn add_lost_if(scenario: &Scenario, order: Order, lost: u64, writer: u32, out: &
 }
 
 /// Appends the lines of the writers that were lost over an order.
-#[tactic(auto, using(crate::proofs::Losses::from_first))]
+#[tactic(auto, using(crate::proofs::Telling::from_first))]
 fn add_all_lost(scenario: &Scenario, order: Order, lost: u64, out: &mut Text)
     requires range { All (λ w. w < length scenario.now.writers) (writers_of lost) }
     requires room { 4096 ≤ out.old.spare }

@@ -8,7 +8,7 @@ ghost use Rattle.scenario.specs.Named.{HasNames};
 ghost use Rattle.vss_model.specs.Acts.{Act, state};
 ghost use Rattle.vss_model.specs.Trail.{begin, run};
 ghost use Rattle.vss_report.specs.Report.{IsMoveText, IsReport, IsReportSoFar, first_line};
-ghost use Rattle.vss_report.specs.ToldReport.{all_tell, told_report};
+ghost use Rattle.vss_report.specs.ToldLines.{all_tell, told_report};
 ghost use Rattle.vss_report.specs.ReadBack.{reading_back};
 ghost use Rattle.vss_report.specs.Legible.{HasItsCode, IsLegible, IsLegibleMove, AreLegible, IsLegibleTrail};
 

@@ -12,7 +12,7 @@
 //! `laws` has what holds of every report. A report is read back as the trail that it was made of, and as no other, where the
 //! scenario and the moves are legible (`specs/Legible.antt`): names are by the grammar and apart, and each move has a reply that
 //! its actor and its mark can have, with numbers of at most eight bytes. `move_lines` says so of each legal move
-//! (`specs/LegibleOutcome.antt`).
+//! (`specs/Legible.antt`).
 #![tactic(auto)]
 
 mod closing;

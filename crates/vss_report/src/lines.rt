@@ -4,7 +4,7 @@ ghost use Rattle.std.specs.Prelude.{◌≡◌, ◌+◌, ◌≤◌, ◌<◌, ◌+
 ghost use Rattle.std.specs.Fmt.{decimal};
 ghost use Rattle.vss_report.specs.Words.{spaced, as_line};
 ghost use Rattle.vss_report.specs.Report.{first_line};
-ghost use Rattle.vss_report.specs.LegibleOutcome.{IsLegibleAs};
+ghost use Rattle.vss_report.specs.Legible.{IsLegibleAs};
 ghost use Rattle.vss_report.specs.ToldLines.{told_actor, told_text, told_lines, most_bytes, AreLinesOf, AreInRange, HasRowsIfTold, IsActor, IsTold, closing_text, IsClosingRow};
 
 use crate::closing::add_closing;

@@ -25,7 +25,7 @@ pub fn piece_at(text: &[u8], mark: u8, at: usize) -> &[u8]
 }
 
 /// Whether no piece begins at a place or after it.
-#[tactic(auto, using(crate::proofs::Parting::some_piece))]
+#[tactic(auto, using(crate::proofs::Joined::some_piece))]
 pub fn is_over(text: &[u8], mark: u8, at: usize) -> bool
     ensures { result ≡ is_over (pieces_at mark text.now at) }
 {
@@ -33,7 +33,7 @@ pub fn is_over(text: &[u8], mark: u8, at: usize) -> bool
 }
 
 /// The piece that begins at a place, where one does.
-#[tactic(auto, using(crate::proofs::Parting::no_piece))]
+#[tactic(auto, using(crate::proofs::Joined::no_piece))]
 pub fn part_at(text: &[u8], mark: u8, at: usize) -> Option<Word<'_>>
     ensures some { IfSome result (λ part. pieces_at mark text.now at ≡ part.text.now ∷ pieces_at mark text.now part.next) }
     ensures none { IfNone result (pieces_at mark text.now at ≡ []) }

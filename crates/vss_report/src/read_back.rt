@@ -37,7 +37,7 @@ fn kind_of_move(scenario: &Scenario, line: &[u8], at: usize) -> LineKind
 }
 
 /// What a line is, where move `number` is the next.
-#[tactic(auto, using(crate::proofs::Parting::from_first), unfolding(crate::specs::Shapes::kind_of))]
+#[tactic(auto, using(crate::proofs::Joined::from_first), unfolding(crate::specs::Shapes::kind_of))]
 fn kind_of(scenario: &Scenario, number: u32, line: &[u8]) -> LineKind
     ensures kind { result ≡ shapes.kind_of scenario.now number line.now }
     ensures may_follow { shapes.MayFollow number result }
@@ -115,7 +115,7 @@ fn read(
 }
 
 /// Appends the moves that a report tells, read forward and once.
-#[tactic(auto, using(crate::proofs::Parting::from_first), unfolding(crate::specs::ReadBack::reading_back, crate::specs::ReadBack::moves_told))]
+#[tactic(auto, using(crate::proofs::Joined::from_first), unfolding(crate::specs::ReadBack::reading_back, crate::specs::ReadBack::moves_told))]
 fn read_into(scenario: &Scenario, report: &[u8], trail: &mut Trail) -> Result<(), ReportFault>
     requires short { length report.now < 4294967295 }
     requires empty { trail.old.moves ≡ [] }

@@ -3,12 +3,11 @@
 ghost use Rattle.std.specs.Prelude.{◌≡◌, ◌<◌, length, is_some, IfSome};
 ghost use Rattle.std.specs.List.{list_all};
 ghost use Rattle.std.specs.Str.{bytes_eq};
-ghost use Rattle.scenario.specs.Numbers as numbers;
 ghost use Rattle.vss_report.specs.Shapes as shapes;
 
 use crate::names::{lane_name, volume_name, writer_name};
-use scenario::Scenario;
 use scenario::numbers::number_in;
+use scenario::{Reason, Scenario};
 use vss_names::{Order, VssResult, WriterError};
 
 /// Whether a word is this one.
@@ -18,27 +17,15 @@ pub fn is(word: &[u8], text: &str) -> bool
     word == text.as_bytes()
 }
 
-fn begins_number(word: &[u8]) -> bool
-    ensures { result ≡ numbers.begins_number word.now }
-{
-    if word.is_empty() {
-        return false;
-    }
-    !(word[0] == b'0' && 1 < word.len())
-}
-
-fn are_digits(word: &[u8]) -> bool
-    ensures { result ≡ list_all numbers.is_digit word.now }
-{
-    word.iter().all(|byte| byte.is_ascii_digit())
-}
-
 /// Whether a word is a number, of any length.
-#[tactic(auto, using(crate::proofs::Values::number_by_digits))]
+#[tactic(auto, using(crate::proofs::Joined::number_read))]
 pub fn is_number(word: &[u8]) -> bool
     ensures { result ≡ shapes.is_number word.now }
 {
-    begins_number(word) && are_digits(word)
+    match number_in(word, 0, 0) {
+        Err(Reason::BadNumber) => false,
+        _ => true,
+    }
 }
 
 /// The number that a word is, where it is one that is not above the bound.

@@ -3,8 +3,7 @@
 
 ghost use Rattle.std.specs.Prelude.{◌≡◌, All, length};
 ghost use Rattle.hex.specs.Hex.{IsBytes};
-ghost use Rattle.vss_report.specs.Legible.{IsShort};
-ghost use Rattle.vss_report.specs.LegibleOutcome.{IsShortTold, AreShortSets, AreShort};
+ghost use Rattle.vss_report.specs.Legible.{IsShort, IsShortTold, AreShortSets, AreShort};
 
 use vss_model::{Evicted, Lists, Outcome, Told};
 

@@ -43,7 +43,7 @@ fn is_coded(state: WriterState, text: &[u8], at: usize) -> bool
 }
 
 /// Whether a text is a state with its code.
-#[tactic(auto, using(crate::proofs::Parting::from_first))]
+#[tactic(auto, using(crate::proofs::Joined::from_first))]
 fn is_state(text: &[u8]) -> bool
     ensures { result ≡ shapes.is_state text.now }
 {
@@ -67,7 +67,7 @@ fn is_one_state(word: &[u8], at: usize) -> bool
 }
 
 /// Whether a word is the name of a writer and its state.
-#[tactic(auto, using(crate::proofs::Parting::from_first))]
+#[tactic(auto, using(crate::proofs::Joined::from_first))]
 pub fn is_state_of(name: &[u8], word: &[u8]) -> bool
     ensures { result ≡ shapes.is_state_of name.now word.now }
 {

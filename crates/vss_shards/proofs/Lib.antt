@@ -1,9 +1,2 @@
-pub mod Places
-pub mod Standing
+pub mod Lists
 pub mod Keeping
-pub mod Onward
-pub mod Moments
-pub mod Comparing
-pub mod Whole
-pub mod Made
-pub mod Numbered

@@ -1,25 +1,32 @@
--- What the calls on a shard, a draft and the journal come to. (This project's own.)
-use Rattle.std.specs.Prelude.{ℕ, ◌≡◌, ◌<◌, ◌≤◌, ◌+◌, ◌⊎◌, ◌++◌, List, [], ◌∷◌, length, true, Option, Some, None, is_some, Result, Ok, Err}
+-- What the calls on a shard, a draft and the journal come to, and what is said of one that failed. (This project's own.)
+use Rattle.std.specs.Fmt.{decimal}
+use Rattle.std.specs.Prelude.{ℕ, ◌≡◌, ◌<◌, ◌≤◌, ◌+◌, ◌⊎◌, ◌++◌, List, [], ◌∷◌, length, true, Option, Some, None, is_some, Result, Ok, Err, codes}
+use Rattle.volume_device.specs.declared.device.Device.{Ghosts}
 use Rattle.write_history.specs.History.{Image, after_set}
-use Rattle.cow_volume.specs.GroupValue.{GroupValue}
+use Rattle.cow_volume.specs.StandsFor.{GroupValue}
 use Rattle.cow_volume.specs.OneVolume.{blocks_of, IsOneWritten, IsOneUnwritten}
 use Rattle.cow_volume.specs.declared.cause.Cause.{Cause}
 use Rattle.cow_volume.specs.declared.cause.Cause.TheVariants.{NoSuchBlock as NoBlockCause, Volume as VolumeCause, Area as AreaCause}
 use Rattle.cow_volume.specs.declared.write_fault.WriteFault.{WriteFault}
-use Rattle.vss_shards.specs.declared.small.Small.{Small}
-use Rattle.vss_shards.specs.declared.entry.Entry.{Entry}
-use Rattle.vss_shards.specs.declared.part.Part.{Part}
-use Rattle.vss_shards.specs.declared.shard_fault.ShardFault.{ShardFault}
-use Rattle.vss_shards.specs.declared.shard_fault.ShardFault.TheVariants.{Held, NoSuchBlock, Full, OutOfMemory, Volume, Area}
+use Rattle.vss_shards.specs.Shards.{DraftValue, IsTakenOut, IsShard, ShardValue, shard_value, most_images}
+use Rattle.vss_shards.specs.Journals.{write_of, most_entries, JournalValue, Cut, IsEnteredUnderLock, IsFullUnderLock, appended, first_off, journal_value}
+use Rattle.vss_shards.specs.Journals.{most_cuts}
 use Rattle.vss_shards.specs.declared.collect_fault.CollectFault.{CollectFault}
 use Rattle.vss_shards.specs.declared.collect_fault.CollectFault.TheVariants.{Held as HeldAlready, Full as NoRoom, OutOfMemory as NoMemory}
+use Rattle.vss_shards.specs.declared.collect_fault.CollectFault.TheVariants as collect
+use Rattle.vss_shards.specs.declared.entry.Entry.{Entry}
+use Rattle.vss_shards.specs.declared.gather_fault.GatherFault.{GatherFault}
+use Rattle.vss_shards.specs.declared.gather_fault.GatherFault.TheVariants as gather
+use Rattle.vss_shards.specs.declared.part.Part.{Part}
 use Rattle.vss_shards.specs.declared.record_fault.RecordFault.{RecordFault}
 use Rattle.vss_shards.specs.declared.record_fault.RecordFault.TheVariants.{Full as FullOfCuts, Differs, OutOfMemory as NoMemoryForCut}
-use Rattle.vss_shards.specs.Entries.{write_of, most_entries}
-use Rattle.vss_shards.specs.Shards.{IsShard, ShardValue, shard_value, most_images}
-use Rattle.vss_shards.specs.Journals.{JournalValue, Cut, IsEnteredUnderLock, IsFullUnderLock, appended, first_off, journal_value, most_cuts}
-use Rattle.vss_shards.specs.Drafts.{DraftValue, IsTakenOut}
-use Rattle.volume_device.specs.declared.device.Device.{Ghosts}
+use Rattle.vss_shards.specs.declared.record_fault.RecordFault.TheVariants as record_cut
+use Rattle.vss_shards.specs.declared.shard_fault.ShardFault.{ShardFault}
+use Rattle.vss_shards.specs.declared.shard_fault.ShardFault.TheVariants.{Held, NoSuchBlock, Full, OutOfMemory, Volume, Area}
+use Rattle.vss_shards.specs.declared.shard_fault.ShardFault.TheVariants as shard
+use Rattle.vss_shards.specs.declared.small.Small.{Small}
+
+-- ## What the calls on a shard, a draft and the journal come to. (This project's own.)
 
 -- ## write_on
 
@@ -181,3 +188,28 @@ pub record IsGivenBack {D : Type 0} (old new : ShardValue D) (draft_old draft_ne
   pub area : new.volume.area ≡ old.volume.area
   pub parts : IsTakenOut part draft_old.parts draft_new.parts
   pub recorded : draft_new.recorded ≡ draft_old.recorded
+
+-- ## What is said of a call on shards that failed. (This project's own.)
+
+abbrev pub collect_message : CollectFault → List ℕ
+collect_message collect.Held = codes "the shard is held for a cut"
+collect_message collect.Full = codes "the shard takes no more images"
+collect_message collect.OutOfMemory = codes "out of memory"
+
+abbrev pub gather_message : GatherFault → List ℕ
+gather_message (gather.Held volume) = codes "volume " ++ decimal volume ++ codes " is held for a cut"
+gather_message (gather.Differs volume at listed journalled) = codes "volume " ++ (decimal volume ++ (codes " differs from the journal at entry " ++ decimal at))
+
+abbrev pub record_message : RecordFault → List ℕ
+record_message record_cut.Full = codes "the journal takes no more cuts"
+record_message (record_cut.Differs volume listed journalled) =
+    codes "volume " ++ (decimal volume ++ (codes " lists " ++ (decimal listed ++ (codes " entries, the journal " ++ decimal journalled))))
+record_message record_cut.OutOfMemory = codes "out of memory"
+
+abbrev pub shard_message : ShardFault → List ℕ
+shard_message shard.Held = codes "the shard is held for a cut"
+shard_message shard.NoSuchBlock = codes "no such block"
+shard_message shard.Full = codes "the shard or the journal takes no more entries"
+shard_message shard.OutOfMemory = codes "out of memory"
+shard_message shard.Volume = codes "the volume's device failed"
+shard_message shard.Area = codes "the diff area's device failed"

@@ -1,10 +1,4 @@
-pub mod Entries
-pub mod Shards
 pub mod Journals
-pub mod Drafts
+pub mod Shards
 pub mod Calls
-pub mod Reads
-pub mod Gathered
-pub mod GoingOn
 pub mod OneMoment
-pub mod Messages

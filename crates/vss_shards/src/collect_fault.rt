@@ -1,5 +1,5 @@
 ghost use Rattle.std.specs.Prelude.{Some};
-ghost use Rattle.vss_shards.specs.Messages.{collect_message};
+ghost use Rattle.vss_shards.specs.Calls.{collect_message};
 
 use std::error::Error;
 use std::fmt;

@@ -1,7 +1,6 @@
 ghost use Rattle.std.specs.Prelude.{◌≡◌, None};
 ghost use Rattle.vss_shards.specs.Calls.{IsCollected, IsGivenBack};
-ghost use Rattle.vss_shards.specs.Drafts.{HasPartOf};
-ghost use Rattle.vss_shards.specs.GoingOn.{GoesOn};
+ghost use Rattle.vss_shards.specs.Shards.{HasPartOf, GoesOn};
 
 use crate::collect_fault::CollectFault;
 use crate::draft::Draft;

@@ -1,7 +1,7 @@
 ghost use Rattle.std.specs.Prelude.{◌≡◌, ◌<◌, ◌++◌, [], ◌∷◌, Some, None, slice_get, IfSome, IsNone, IsTrue, ◌↔◌, OnOk, OnErr};
 ghost use Rattle.std.specs.List.{Contains};
-ghost use Rattle.vss_shards.specs.Entries.{most_volumes};
-ghost use Rattle.vss_shards.specs.Drafts.{AreParts, HasPartOf, IsTakenOut};
+ghost use Rattle.vss_shards.specs.Journals.{most_volumes};
+ghost use Rattle.vss_shards.specs.Shards.{AreParts, HasPartOf, IsTakenOut};
 
 use crate::part::Part;
 use crate::shard::Shard;
@@ -19,7 +19,7 @@ pub struct Draft {
 }
 
 impl Model for Draft {
-    ghost use Rattle.vss_shards.specs.Drafts.{DraftValue, AreParts};
+    ghost use Rattle.vss_shards.specs.Shards.{DraftValue, AreParts};
 
     ghost Value = { DraftValue };
 

@@ -1,5 +1,5 @@
 ghost use Rattle.std.specs.Prelude.{Some};
-ghost use Rattle.vss_shards.specs.Messages.{gather_message};
+ghost use Rattle.vss_shards.specs.Calls.{gather_message};
 
 use crate::entry::Entry;
 use std::error::Error;

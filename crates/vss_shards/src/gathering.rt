@@ -1,6 +1,6 @@
 ghost use Rattle.std.specs.Prelude.{◌≡◌, ◌≤◌, ℕ, length, OnOk, IfErr};
-ghost use Rattle.vss_shards.specs.Entries.{part_of, most_entries};
-ghost use Rattle.vss_shards.specs.Gathered.{IsFree, IsPart, IsFirstHeld, IsGathered, IsHeldOne, IsOffIn};
+ghost use Rattle.vss_shards.specs.Journals.{part_of, most_entries};
+ghost use Rattle.vss_shards.specs.OneMoment.{IsFree, IsPart, IsFirstHeld, IsGathered, IsHeldOne, IsOffIn};
 
 use crate::entry::Entry;
 use crate::gather_fault::GatherFault;

@@ -1,7 +1,6 @@
 ghost use Rattle.std.specs.Prelude.{◌≡◌, ◌<◌, ◌≤◌, ◌+◌, ◌-◌, ◌++◌, [], ◌∷◌, None, length, slice_get, All, IfOk, IfSome, IsTrue, OnOk, OnErr, false};
-ghost use Rattle.vss_shards.specs.Entries.{count_of, most_entries, most_volumes};
-ghost use Rattle.vss_shards.specs.Journals.{IsEnteredIn, IsJournal, appended, first_off, journal_value, most_cuts, with_places};
-ghost use Rattle.vss_shards.specs.Drafts.{AreParts};
+ghost use Rattle.vss_shards.specs.Journals.{count_of, most_entries, most_volumes, IsEnteredIn, IsJournal, appended, first_off, journal_value, most_cuts, with_places};
+ghost use Rattle.vss_shards.specs.Shards.{AreParts};
 ghost use Rattle.vss_shards.specs.Calls.{IsRecorded};
 
 use crate::draft::Draft;

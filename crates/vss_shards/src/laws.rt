@@ -2,10 +2,8 @@
 
 ghost use Rattle.std.specs.Prelude.{ℕ};
 ghost use Rattle.vss_shards.specs.declared.part.Part.{Part};
-ghost use Rattle.vss_shards.specs.Shards.{ShardValue};
+ghost use Rattle.vss_shards.specs.Shards.{ShardValue, DraftValue, GoesOn};
 ghost use Rattle.vss_shards.specs.Journals.{JournalValue, Cut};
-ghost use Rattle.vss_shards.specs.Drafts.{DraftValue};
-ghost use Rattle.vss_shards.specs.GoingOn.{GoesOn};
 ghost use Rattle.vss_shards.specs.OneMoment.{HasImage, IsGivenImage, IsImageOf, ShowsMoment};
 
 use volume_device::Device;

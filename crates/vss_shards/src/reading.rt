@@ -1,8 +1,7 @@
 ghost use Rattle.std.specs.Prelude.{◌≡◌, ◌<◌, true, length, IfErr, OnOk};
 ghost use Rattle.cow_volume.specs.Calls.{IsUnfailed, is_among};
 ghost use Rattle.cow_volume.specs.OneVolume.{blocks_of, image_sets, HasOneCause, HasOneImageCause};
-ghost use Rattle.vss_shards.specs.Reads.{IsAfterAll, IsAtPoint, IsRead};
-ghost use Rattle.vss_shards.specs.GoingOn.{GoesOn};
+ghost use Rattle.vss_shards.specs.Shards.{IsAfterAll, IsAtPoint, IsRead, GoesOn};
 
 use crate::shard::Shard;
 use block_data::BLOCK;

@@ -1,7 +1,7 @@
 ghost use Rattle.std.specs.Prelude.{◌≡◌, ◌<◌, ◌≤◌, [], ◌∷◌, None, is_some, length, vec_capacity, IfOk};
 ghost use Rattle.write_history.specs.History.{fresh};
 ghost use Rattle.cow_volume.specs.OneVolume.{StandsForOne};
-ghost use Rattle.vss_shards.specs.Entries.{most_volumes};
+ghost use Rattle.vss_shards.specs.Journals.{most_volumes};
 ghost use Rattle.vss_shards.specs.Shards.{IsShard, shard_value};
 
 use crate::entry::Entry;

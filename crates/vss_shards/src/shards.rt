@@ -4,9 +4,8 @@ ghost use Rattle.std.specs.List.Sorted.{IsNonDecreasingBy};
 ghost use Rattle.std.specs.Sync.Mutex.{mutex_guard_value};
 ghost use Rattle.write_history.specs.History.{fresh};
 ghost use Rattle.cow_volume.specs.OneVolume.{StandsForOne};
-ghost use Rattle.vss_shards.specs.Entries.{most_entries, most_volumes};
+ghost use Rattle.vss_shards.specs.Journals.{most_entries, most_volumes, IsEnteredUnderLock};
 ghost use Rattle.vss_shards.specs.Calls.{IsPlaceRefused, IsWriteSaid, IsWriteUnderLock};
-ghost use Rattle.vss_shards.specs.Journals.{IsEnteredUnderLock};
 ghost use Rattle.vss_shards.specs.Shards.{IsShard, ShardValue, shards_from};
 
 use crate::entry::Entry;

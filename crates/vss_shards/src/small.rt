@@ -1,5 +1,5 @@
 ghost use Rattle.std.specs.Prelude.{◌≡◌};
-ghost use Rattle.vss_shards.specs.Entries.{payload_of};
+ghost use Rattle.vss_shards.specs.Journals.{payload_of};
 
 use block_data::Payload;
 

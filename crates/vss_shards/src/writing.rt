@@ -1,11 +1,9 @@
 ghost use Rattle.std.specs.Prelude.{◌≡◌, ◌<◌, ◌+◌, length, vec_capacity, IfErr, IfOk, OnOk, All};
 ghost use Rattle.write_history.specs.History.{Image, after_set};
-ghost use Rattle.vss_shards.specs.Entries.{most_entries, most_volumes};
+ghost use Rattle.vss_shards.specs.Journals.{most_entries, most_volumes, with_places};
 ghost use Rattle.vss_shards.specs.Calls.{IsAllowed, IsPut, IsWriteOn, MayBeWritten, fault_from};
-ghost use Rattle.vss_shards.specs.Journals.{with_places};
-ghost use Rattle.vss_shards.specs.Shards.{IsShard};
+ghost use Rattle.vss_shards.specs.Shards.{IsShard, GoesOn};
 ghost use Rattle.vss_shards.specs.declared.shard_fault.ShardFault.TheVariants.{OutOfMemory};
-ghost use Rattle.vss_shards.specs.GoingOn.{GoesOn};
 
 use crate::entry::Entry;
 use crate::image_point::ImagePoint;

@@ -11,6 +11,7 @@ mod explaining;
 mod picturing;
 mod playing;
 mod reading;
+mod timeline;
 
 use std::env::Env;
 use std::process::ExitCode;

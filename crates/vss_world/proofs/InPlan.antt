@@ -2,8 +2,8 @@
 use Rattle.std.proofs.Common.{◌≡◌, ℕ, ◌+◌, ◌<◌, ◌≤◌, ◌==◌, List, [], ◌∷◌, ◌++◌, Option, Some, None, refl, Bool, true, false, subst, length, arith, option_map, map, filter, find, if◌then◌else◌, not}
 use Rattle.vss_world.proofs.Words.{Act, Agenda, AreBelow, AsyncCancelled, Course, Covers, Ending, Event, Group, History, IsAgendaIn}
 use Rattle.vss_world.proofs.Words.{IsInPlan, IsKeptInCourse, IsOp, Kept, Kind, Level, Line, Mark, Member, MembersBelow, Ok, Open, Pair, Place, Plan}
-use Rattle.vss_world.proofs.Words.{Said, Session, SetFails, SetOutcome, SetRow, SetsBelow, State, VssResult, Write, WriterRow, after, after_by, all_say, begun, by_if, cleared, concluded}
-use Rattle.vss_world.proofs.Words.{course_answered, course_begun, course_stepped, course_timed, covered, ending, failed_in, has_no_volume, has_said, idle_now, in_progress, is_over_volumes}
+use Rattle.vss_world.proofs.Words.{Said, Session, SetFails, SetOutcome, SetRow, SetsBelow, State, VssResult, Write, WriterRow, after, after_by, all_say, begun, cleared, concluded}
+use Rattle.vss_world.proofs.Words.{course_answered, course_begun, course_stepped, course_timed, covered, ending, failed_in, has_said, idle_now, in_progress, is_over_volumes}
 use Rattle.vss_world.proofs.Words.{is_running, later, left, left_from, left_now, member_if, members_from, members_of, next_member, next_volume, open_group, places, put, reverted_as, row_changed}
 use Rattle.vss_world.proofs.Words.{row_cut, row_gathered, row_settled, runs, said_of, set_loses_image, step_made, stepped_as, volumes_of, waited_for, with_cut, with_group, with_room}
 use Rattle.vss_world.proofs.Words.{with_room_if, with_volume}
@@ -226,10 +226,9 @@ in_plan s st rows h =
       names = λ lane w full q explicit mark g e i. unseen s st _ _ _ _ h;
       starts = λ lane q mark g e i. record { sets = sets_append (length s.volumes) st.sets _ h.sets tt; agenda = h.agenda; members = h.members; disabled = h.disabled };
       adds = λ lane v r q mark g e f i. record { sets = sets_joined (length s.volumes) r.number v st.sets i h.sets; agenda = h.agenda; members = h.members; disabled = h.disabled };
-      prepares = λ lane q mark g i. by_if (λ r. IsInPlan s r.1) (has_no_volume (in_progress st)) _ _ h
-          (begins_in s st kind.Prepare _ [] (record st.course { members = _ }) (all _) tt (all _) h.disabled h.sets);
-      snapshots = λ lane q mark g i. by_if (λ r. IsInPlan s r.1) (has_no_volume (in_progress st)) _ _ h
-          (begins_in s st kind.Snapshot st.course.members _ st.course h.members (volumes_below (length s.volumes) st h.sets) h.members h.disabled h.sets);
+      prepares = λ lane q mark g f i. begins_in s st kind.Prepare _ [] (record st.course { members = _ }) (all _) tt (all _) h.disabled h.sets;
+      snapshots = λ lane q mark g f i.
+          begins_in s st kind.Snapshot st.course.members _ st.course h.members (volumes_below (length s.volumes) st h.sets) h.members h.disabled h.sets;
       completes = λ lane q mark g i. begins_in s st kind.Complete _ [] st.course (members_filter _ (length s.writers) st.course.members h.members) tt h.members h.disabled h.sets;
       aborts = λ lane q mark e i. in_set_failed s _ st h;
       ends = λ lane q mark e i. in_closed s q (set_failed AsyncCancelled st) (in_set_failed s AsyncCancelled st h);

@@ -6,7 +6,7 @@ use Rattle.vss_world.proofs.Words.{IsPrepared, IsReleased, IsSettled, NumberedFr
 use Rattle.vss_world.proofs.Words.{counts_of, change_at, cut as history_cut, devices_of, dropped, ended_of, eqb-true, failed_set, has_failed, history_in}
 use Rattle.vss_world.proofs.Words.{image_runs, images_after, in_progress, is_live, is_running, is_snapshot, kept_same, kept_trans, nat_tests, none_over}
 use Rattle.vss_world.proofs.Words.{number_prepared, orderly, plain, point_in, state, true_not_false, volumes_of, without_images, without_set}
-use Rattle.vss_world.proofs.Options.{none_from}
+use Rattle.vss_world.proofs.Kept.{none_from}
 use Rattle.vss_world.proofs.SetGoesOn.{skip, GoesOn, StaysOn, IsOver, IsOverIf, IsSameSet, runs_snapshot}
 
 -- ## where nothing changes
@@ -184,8 +184,7 @@ module _ {D : Type 0} (device : Ghosts D) (s : Plan) (p : ProviderValue D) (st n
   released_comes (Some n) q r hs h prepared stand = (prepared_same q r next h.2 prepared, h.1.stands s hs stand)
 
   pub settled_comes : (m : SessionMove) (q : ProviderValue D) → IsSettled device m p q → EndsAs (ended_of (in_progress st) next.sets) m.outcome.set m.outcome.result
-      → next.volumes ≡ images_after m made
-      → IsPrepared q next × AreGroups device.told s q.groups next.volumes
+      → next.volumes ≡ images_after m made → IsPrepared q next × AreGroups device.told s q.groups next.volumes
   settled_comes m q h ends volumes =
       let e = ended_comes m.outcome.set m.outcome.result h.0 h.1 ends in
       let r = released_comes m.released h.0 q (without_images (failed_set m.outcome.result m.outcome.set) made) h.2 e.0 e.1 in

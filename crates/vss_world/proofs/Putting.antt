@@ -19,11 +19,10 @@ use Rattle.provider.proofs.Words.{number_is as own_number, put_if, slice_get_ins
 use Rattle.vss_world.proofs.Words.{IfStands, IsBlocked, IsInPlan, IsMoved, IsOf, IsPrepared, IsWriteBy, IsWriteLine, MakesRoom, RoseFor, Stands, StandsAt}
 use Rattle.vss_world.proofs.Words.{WorldValue, current_kept, no_row as none_current, number_prepared, simple_outcome, tells_of, told_if, volume_by}
 use Rattle.scenario.specs.declared.line.Line.{Line as Does}
-use Rattle.vss_world.proofs.Moved.{world_of, OfDevices, Comes, goes_on, leaves_of, in_order, moved, clean_devices, failed_devices, rose_for}
-use Rattle.vss_world.proofs.Simple.{LineComes, line_moves, after_line}
+use Rattle.vss_world.proofs.Moved.{world_of, OfDevices, Comes, goes_on, leaves_of, in_order, moved, clean_devices, failed_devices, rose_for, LineComes}
+use Rattle.vss_world.proofs.Moved.{line_moves, after_line}
 use Rattle.vss_world.proofs.InPlan.{in_failed_in}
-use Rattle.vss_world.proofs.Losing.{AllUpTo, not_lost, lost_at, up_to_most}
-use Rattle.vss_world.proofs.Evictions.{evicted_is}
+use Rattle.vss_world.proofs.Evictions.{AllUpTo, not_lost, lost_at, up_to_most, evicted_is}
 use Rattle.vss_world.proofs.SetGoesOn.{runs_snapshot, failed_ends}
 use Rattle.vss_world.proofs.Prepared.{prepared_same, prepared_none, runs_number}
 
@@ -99,8 +98,7 @@ outcome_as done set result = record { told = told_if done; lost = 0; lost_order 
 
 put_devices : {D : Type 0} {device : Ghosts D} {s : Plan} {lane : ℕ} {op : Op} {v : ℕ} {w : Write} {m : ℕ} {p q r z : ProviderValue D} {x y : SessionsValue} {l : List ℕ} {e f : List Evicted}
     (set : ℕ) (result : SetOutcome) (done : Result Unit Cause) → IsMade device s lane op v w done m p q r x f → IsOf (world_of p x l e) s → IsSessionsOf y s → AreKept device r.groups z.groups
-    → devices_of z.groups ≡ devices_of r.groups
-    → OfDevices device s (Line lane op) (outcome_as done set result) (world_of p x l e) (world_of z y l f)
+    → devices_of z.groups ≡ devices_of r.groups → OfDevices device s (Line lane op) (outcome_as done set result) (world_of p x l e) (world_of z y l f)
 put_devices {device = device} {s = s} {lane = lane} {op = op} {v = v} {p = p} {q = q} {r = r} {z = z} {x = x} {y = y} {l = l} {e = e}
     {f = f} set result done h of writers kept same = by_result done h.puts.cause
   where

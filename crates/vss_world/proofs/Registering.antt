@@ -63,8 +63,7 @@ pub registers : (s : Plan) (k : ℕ) (old new : CoordinatorState) (span : Span) 
     → option_map (λ (w : WriterPlan). w.name) (slice_get s.writers k) ≡ Some span
     → option_map (λ (w : WriterPlan). w.meta) (slice_get s.writers k) ≡ Some (meta_of found) → meta_of given ≡ meta_of found → name ≡ token s span
     → ((c : Course) → Stands old c → Stands new (registered_in given.level given.freeze_timeout c)) → new.writers ≡ old.writers ++ record { name = name; class = given.class } ∷ []
-    → writer_count new ≡ writer_count old + 1
-    → ((now : ℕ) → IsOnTime now old → IsOnTime now new) → new.posts ≡ old.posts → HasRegistered s (k + 1) new
+    → writer_count new ≡ writer_count old + 1 → ((now : ℕ) → IsOnTime now old → IsOnTime now new) → new.posts ≡ old.posts → HasRegistered s (k + 1) new
 registers s k old new span name found given before e meta copied is stands writers count times posts =
     let w = writer_at s k span (slice_get s.writers k) refl e in
     let same : meta_of given ≡ w.writer.meta = copied ∙ meta_at (slice_get s.writers k) w.writer (meta_of found) w.at meta in

@@ -11,9 +11,8 @@ use Rattle.provider.specs.Words.{Fault}
 use Rattle.vss_model.specs.declared.told.Told.TheVariants as told
 use Rattle.vss_model.proofs.StateForm.{delete_set, delete_image, revert}
 use Rattle.vss_world.proofs.Moved.{world_of}
-use Rattle.vss_world.proofs.Seen.{IsPlain, clean_moves, failed_moves, refused_moves}
-use Rattle.vss_world.proofs.Options.{some_is}
-use Rattle.vss_world.proofs.Looking.{IsKeptIf, IsOnImage, of_image, provided_point}
+use Rattle.vss_world.proofs.Looking.{IsPlain, clean_moves, failed_moves, refused_moves, IsKeptIf, IsOnImage, of_image, provided_point}
+use Rattle.vss_world.proofs.Kept.{some_is}
 
 -- ## a set
 

@@ -221,10 +221,7 @@ begun_goes k ms vs now c st of none plain same = by_done (is_done (groups_left (
     by_done true None e h = plain_goes (begun k ms vs now c) st of (in_progress st) refl (ap runs_snapshot none) e (h.1 ∙ kept k plain c.outcome ∙ same)
     by_done false (Some b) e h =
         subst (λ (x : Ending). GoesOn st (concluded x (record st { course = begun k ms vs now c }))) (sym (ending_on st.course.outcome (begun k ms vs now c).outcome true b (h.1 ∙ same)))
-        (inl (record {
-          set = same_set (in_progress st);
-          snapshot = ap runs_snapshot (e ∙ h.0) ∙ plain ∙ sym (ap runs_snapshot none);
-        }))
+        (inl (record { set = same_set (in_progress st); snapshot = ap runs_snapshot (e ∙ h.0) ∙ plain ∙ sym (ap runs_snapshot none) }))
 
 -- the snapshot's, where none ran
 pub record BeginsSnapshot (st next : State) : Type 0 where

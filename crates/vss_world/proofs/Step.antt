@@ -1,24 +1,49 @@
--- A step of the provider, made or failed: what it comes to.
-use Rattle.std.proofs.Common.{◌≡◌, ℕ, ◌<◌, List, [], ◌∷◌, ◌++◌, refl, ap, sym, ◌∙◌, subst, Bool, true, false, ◌&&◌, Option, Some, None, inl, map, not, is_ok}
-use Rattle.std.proofs.Common.{IfSome, OnOk, Result, Ok, Err, slice_get, arith}
-use Rattle.vss_world.proofs.Words.{Act, Agenda, AreGroups, AreKept, Call, Cause, Clean, Course, Evicted, Fault, Flush, Ghosts, Group, HasStepCause, History}
-use Rattle.vss_world.proofs.Words.{IfStandFor, IfStands, IsAt, IsMove, IsMoved, IsNextStep, IsOf, IsPrepared, IsSettled, Keeps, LastsAt, Leaves, Mark}
-use Rattle.vss_world.proofs.Words.{NumberedFrom, Plan, Provider, ProviderValue, RoseAlone, RoseFor, SessionMove, SessionsValue, SetOutcome, SetRow, Settles}
-use Rattle.vss_world.proofs.Words.{Stands, State, Told, UnexpectedProviderError, after, after_move, after_provider, counts_of, course-step_made, cut_set}
-use Rattle.vss_world.proofs.Words.{devices_of, dropped, event_volumes, false≢true, followed, groups_left, has_failed, images_after, in_progress, is_done}
-use Rattle.vss_world.proofs.Words.{is_fault, is_flush, is_snapshot, image_made, Commit, all_say, next_member, is_working, kept_trans, left, left-is, left_now}
-use Rattle.vss_world.proofs.Words.{mark_if, mark_of, next_volume, number-cut, numbered-map, open_group, orderly, runs, state, state-append, step_made}
-use Rattle.vss_world.proofs.Words.{step_taken, stepped as course_stepped, told_act, volume_of_step, volume_place}
+-- A step of the provider, made or failed: its set and its volume, what it comes to, and that a Commit step can cut its image.
+use Rattle.std.proofs.Common.{◌≡◌, ℕ, ◌<◌, List, length, arith, Option, Some, IfSome, [], ◌∷◌, ◌++◌, refl, ap, sym, ◌∙◌, subst, Bool, true, false, ◌&&◌, None}
+use Rattle.std.proofs.Common.{inl, map, not, is_ok, OnOk, Result, Ok, Err, slice_get, ◌≤◌, ◌==◌, All, is_some, if◌then◌else◌}
 use Rattle.writer_state.specs.declared.said.Said.TheVariants as said
 use Rattle.set_agenda.specs.Course.{posted, settled, worked}
 use Rattle.vss_model.specs.declared.told.Told.TheVariants as told
-use Rattle.vss_world.proofs.Moved.{world_of, IsProviderAt, clean_devices, failed_devices, goes_on, leaves_of}
-use Rattle.vss_world.proofs.Following.{at_of, course_of, set_move, ends_of, session_comes, has_snapshot_set}
-use Rattle.vss_world.proofs.Prepared.{volumes_same, IsSetMove, NoneOfZero, none_of_zero, image_above, prepared_same, settled_comes, settled_keeps}
-use Rattle.vss_world.proofs.Provided.{number_above}
-use Rattle.vss_world.proofs.SetGoesOn.{GoesOn, IsOfAgenda, runs_snapshot, followed_goes, stepped_goes, goes_from, step_same, failed_course}
 use Rattle.vss_model.proofs.Changes.{made_are}
 use Rattle.vss_model.proofs.StateForm.{stepped}
+use Rattle.vss_world.proofs.Following.{at_of, course_of, set_move, ends_of, session_comes, has_snapshot_set, agenda_volumes}
+use Rattle.vss_world.proofs.InPlan.{IsBelowIf, next_below}
+use Rattle.vss_world.proofs.Moved.{world_of, IsProviderAt, clean_devices, failed_devices, goes_on, leaves_of}
+use Rattle.vss_world.proofs.Prepared.{volumes_same, IsSetMove, NoneOfZero, none_of_zero, image_above, prepared_same, settled_comes, settled_keeps}
+use Rattle.vss_world.proofs.Putting.{some_current}
+use Rattle.vss_world.proofs.SetGoesOn.{GoesOn, IsOfAgenda, runs_snapshot, followed_goes, stepped_goes, goes_from, step_same, failed_course}
+use Rattle.vss_world.proofs.Words.{Act, Evicted, IsInPlan, Plan, ProviderValue, SessionsValue, SetRow, Stands, State, current_kept, current_of, found_above}
+use Rattle.vss_world.proofs.Words.{in_progress, left_now, next_volume, orderly, state, Agenda, AreGroups, AreKept, Call, Cause, Clean, Course, Fault, Flush}
+use Rattle.vss_world.proofs.Words.{Ghosts, Group, HasStepCause, History, IfStandFor, IfStands, IsAt, IsMove, IsMoved, IsNextStep, IsOf, IsPrepared, IsSettled}
+use Rattle.vss_world.proofs.Words.{Keeps, LastsAt, Leaves, Mark, NumberedFrom, Provider, RoseAlone, RoseFor, SessionMove, SetOutcome, Settles, Told}
+use Rattle.vss_world.proofs.Words.{UnexpectedProviderError, after, after_move, after_provider, counts_of, course-step_made, cut_set, devices_of, dropped}
+use Rattle.vss_world.proofs.Words.{event_volumes, false≢true, followed, groups_left, has_failed, images_after, is_done, is_fault, is_flush, is_snapshot}
+use Rattle.vss_world.proofs.Words.{image_made, Commit, all_say, next_member, is_working, kept_trans, left, left-is, mark_if, mark_of, number-cut, numbered-map}
+use Rattle.vss_world.proofs.Words.{open_group, runs, state-append, step_made, step_taken, stepped as course_stepped, told_act, volume_of_step, volume_place}
+use Rattle.vss_world.proofs.Words.{All-cons, All-nil, CanCutOn, Image, OverButNewest, UpTo, commit_volume, commits, history_of, images_up_to, is_among}
+use Rattle.vss_world.proofs.Words.{is_commit, newest_number, no_image_yet, point_in, room_for_image, volumes_of}
+
+-- ## The number of the set in progress, and the volume of the provider's next step.
+
+-- ## the number of the set
+
+-- a set in progress has a number above 0
+pub number_above : (s : Plan) (acts : List Act) (r : SetRow) → in_progress (state s acts) ≡ Some r → 0 < r.number
+number_above s acts r is = let l = found_above 1 (state s acts).sets r (orderly s acts).numbered is in omega (arith, l)
+
+pub set_above : {D : Type 0} (blocks_told : D → Option (List (List ℕ))) (s : Plan) (p : ProviderValue D) (x : SessionsValue) (l : List ℕ) (e : List Evicted) (acts : List Act)
+    → Stands blocks_told (world_of p x l e) s acts → (n : ℕ) → current_of x.sets ≡ Some n → 0 < n
+set_above blocks_told s p x l e acts stands n is = grind (arith, some_current, current_kept, number_above)
+
+-- ## its volume
+
+below_some : (n : ℕ) (o : Option ℕ) → IsBelowIf n o → IfSome o (λ v. v < n)
+below_some n o h = grind arith
+
+pub volume_within : (s : Plan) (st : State) (volume : Option ℕ) (n : ℕ) → IsInPlan s st → n ≡ length s.volumes → next_volume (left_now st) ≡ volume → IfSome volume (λ v. v < n)
+volume_within s st volume n plan long is = grind (arith, below_some, next_below)
+
+-- ## A step of the provider, made or failed: what it comes to.
 
 pub working : (x : SessionsValue) (group : Group) (volume : Option ℕ) (st : State) → IsNextStep x group volume → Keeps x st → is_working (left_now st) ≡ true
 working x group volume st next keeps = sym (ap is_working (left-is x.coordinator.kept st.course keeps.course.follows)) ∙ next.working
@@ -244,3 +269,55 @@ pub step_lasts : {D : Type 0} (device : Ghosts D) (s : Plan) (group : Group) (vo
     → (group ≡ Flush → OnOk made (IfSome volume (λ v. LastsAt device (volume_place s v) (devices_of q.groups))))
     → (v : ℕ) (d : D) → m.outcome.told ≡ told.Step Flush (Some v) false → slice_get (devices_of r.groups) (volume_place s v) ≡ Some d → device.lasting d ≡ device.told d
 step_lasts device s group volume made ok m q r told_is is settled lasts v d said here = grind arith
+
+-- ## at a Commit step the provider can cut the image of its set on the step's volume
+
+-- ## images of earlier sets
+
+under_one : (a n : ℕ) → a ≤ n → (a == n) ≡ false → a < n
+under_one a n l e = grind arith
+
+under : (n : ℕ) (images : List Image) → UpTo n images → is_some (point_in n images) ≡ false → All (λ (i : Image). i.set < n) images
+under n [] h e = All-nil (λ (i : Image). i.set < n)
+under n (i ∷ images) h e =
+    let parts = by_head (i.set == n) e in All-cons (λ (j : Image). j.set < n) i images (under_one i.set n h.0 parts.0) (under n images h.1 parts.1) where
+      by_head : (b : Bool) → is_some (if b then Some i.point else point_in n images) ≡ false → (b ≡ false) × (is_some (point_in n images) ≡ false)
+      by_head b e = grind arith
+
+-- ## the step
+
+number_of : (st : State) (r : SetRow) → NumberedFrom 1 st.sets → OverButNewest st.sets → in_progress st ≡ Some r → r.number ≡ length st.sets
+number_of st r numbered newest is = let n = newest_number 1 st.sets r numbered newest is in omega (arith, n)
+
+can_commit_at : {D : Type 0} (blocks_told : D → Option (List (List ℕ))) (s : Plan) (p : ProviderValue D) (x : SessionsValue) (l : List ℕ) (e : List Evicted) (acts : List Act) (volume : Option ℕ)
+    → Stands blocks_told (world_of p x l e) s acts → IsNextStep x Commit volume → (v : ℕ) × (volume ≡ Some v) × CanCutOn blocks_told s p v
+can_commit_at blocks_told s p x l e acts volume stands next =
+    let st = state s acts in
+    let o = orderly s acts in
+    let keeps = stands.at.sessions in
+    let opens : is_commit (open_group (left_now st)) ≡ true = ap is_commit (next.group st keeps) in
+    let c = commits s acts opens in
+    let r = c.set in
+    let v = next_member (groups_left c.agenda) in
+    let set : p.set ≡ r.number = step_number p st r stands.at.prepared (working x Commit volume st next keeps) c.is in
+    let among : is_among v r.volumes ≡ true = subst (λ (vs : List ℕ). is_among v vs ≡ true) (agenda_volumes s acts c.agenda r c.runs c.here.snapshot c.is) c.here.among in
+    let none = no_image_yet s acts r c.agenda v c.is c.runs c.here.unsaid in
+    let number = number_of st r o.numbered o.newest c.is in (
+      v,
+      sym (next.volume st keeps) ∙ commit_volume (left_now st) opens ∙ ap (λ (a : Option Agenda). Some (next_member (left a))) c.runs,
+      record {
+        histories = st.volumes;
+        stand = stands.at.groups;
+        above_zero = subst (λ (n : ℕ). 0 < n) (sym set) (number_above s acts r c.is);
+        among = ap (is_among v) (stands.at.prepared.volumes ∙ ap volumes_of c.is) ∙ among;
+        room = room_for_image s acts r v c.is among none;
+        newest = subst (λ (n : ℕ). All (λ (i : Image). i.set < n) (history_of st v).images) (sym set)
+            (under r.number (history_of st v).images (subst (λ (n : ℕ). UpTo n (history_of st v).images) (sym number) (images_up_to st.sets st.volumes v o.numbered o.live)) none);
+      },
+    )
+
+pub can_commit : {D : Type 0} (blocks_told : D → Option (List (List ℕ))) (s : Plan) (p : ProviderValue D) (x : SessionsValue) (l : List ℕ) (e : List Evicted) (acts : List Act) (group : Group)
+    (volume : Option ℕ) → Stands blocks_told (world_of p x l e) s acts → IsNextStep x group volume → group ≡ Commit → IfSome volume (CanCutOn blocks_told s p)
+can_commit blocks_told s p x l e acts group volume stands next commit =
+    let at = can_commit_at blocks_told s p x l e acts volume stands (subst (λ (g : Group). IsNextStep x g volume) commit next) in
+    subst (λ (o : Option ℕ). IfSome o (CanCutOn blocks_told s p)) (sym at.1) at.2

@@ -14,12 +14,11 @@ use Rattle.scenario.specs.Bounds.{IsRangedBy}
 use Rattle.vss_model.specs.declared.told.Told.TheVariants as told
 use Rattle.vss_model.proofs.StateForm.{revert}
 use Rattle.provider.specs.Calls.{StopsAfter as StopsInGroups}
-use Rattle.provider.proofs.Uncounted.{rose_at}
+use Rattle.provider.proofs.Called.{rose_at}
 use Rattle.vss_world.specs.declared.reply.Reply.{Reply as Answer}
 use Rattle.vss_world.specs.Moves.{HasMark, IsToldStep, StopsAs, StopsAfter}
 use Rattle.vss_world.proofs.Moved.{world_of}
-use Rattle.vss_world.proofs.Seen.{IsPlain, failed_moves}
-use Rattle.vss_world.proofs.Looking.{provided_point}
+use Rattle.vss_world.proofs.Looking.{IsPlain, failed_moves, provided_point}
 use Rattle.vss_world.proofs.Removed.{revert_is}
 use Rattle.vss_world.proofs.Step.{failed_moves as step_failed}
 use Rattle.vss_world.proofs.Unsaid.{unsaid, settled_unsaid}

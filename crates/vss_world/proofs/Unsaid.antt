@@ -1,17 +1,55 @@
--- A move, by counts of devices that say nothing of their faults.
-use Rattle.std.proofs.Common.{ℕ, zero, suc, List, [], ◌∷◌, Bool, true, false, Option, Some, None, map, arith}
+-- A move by counts of devices that say nothing of their faults, and the list of sets after it.
+use Rattle.std.proofs.Common.{ℕ, List, [], Bool, Option, if◌then◌else◌, arith, zero, suc, ◌∷◌, true, false, Some, None, map}
 use Rattle.std.specs.Prelude.{◌≡◌, Result, Ok, Err, IfOk, IsErr, OnErr}
-use Rattle.vss_world.proofs.Words.{AreKept, AreWithout, Blocked, Clean, Complete, Event, Evicted, Failed, Ghosts, GroupValue, IsEnded, IsReleased, IsSettled}
-use Rattle.vss_world.proofs.Words.{IsStepped, MakesRoom, Mark, Moved, Plan, ProviderValue, Reply, RoseAlone, RoseFor, Running, SessionMove, SessionsValue, SetOutcome, WorldValue, counts_of}
-use Rattle.vss_world.proofs.Words.{Provider, devices_of, later_same, listed_after}
 use Rattle.vss_names.specs.declared.out_of_memory.OutOfMemory.{OutOfMemory}
-use Rattle.provider.specs.Words.{NeverFails, uncounted}
-use Rattle.cow_volume.proofs.Uncounted.{same_counts, kept_uncounted, no_rise}
-use Rattle.provider.specs.Words.{counted_as}
+use Rattle.cow_volume.proofs.RestoringMerged.{same_counts, kept_uncounted, no_rise}
+use Rattle.vss_model.specs.Words.{Act, Fits, HasLists, Plan, Reply, WriterRow, reply, state, told_act}
+use Rattle.provider.specs.Words.{NeverFails, uncounted, counted_as}
 use Rattle.provider.proofs.Kept.{same_length}
-use Rattle.provider.proofs.Uncounted.{as_many, rose_unsaid}
+use Rattle.provider.proofs.Called.{as_many, rose_unsaid}
 use Rattle.vss_world.specs.Moves.{HasMark, IsMarked, IsToldStep, StepLasts, takes_memory}
-use Rattle.vss_world.proofs.Listed.{listed_so}
+use Rattle.vss_world.specs.Words.{Event, Told}
+use Rattle.vss_world.proofs.Words.{Blocked, Ghosts, IsStepped, Moved, Reply as Answer, Stands, WorldValue, listed_after, lists_sets, tells_of, AreKept}
+use Rattle.vss_world.proofs.Words.{AreWithout, Clean, Complete, Evicted, Failed, GroupValue, IsEnded, IsReleased, IsSettled, MakesRoom, Mark, ProviderValue}
+use Rattle.vss_world.proofs.Words.{RoseAlone, RoseFor, Running, SessionMove, SessionsValue, SetOutcome, counts_of, Provider, devices_of, later_same}
+
+-- ## The list of sets after a step: a move that lists no sets leaves it empty, and what the core stands for is as it was.
+
+lists_then : (tells : List Bool) (r : Reply) (t : Told) (listed : List ℕ) (rows : List WriterRow) → Fits tells r t → HasLists r listed rows → HasLists r (if lists_sets t then listed else []) rows
+lists_then tells r t listed rows fits lists = grind arith
+
+-- the core with another list stands for the same
+stands_with : {D : Type 0} (blocks_told : D → Option (List (List ℕ))) (s : Plan) (w : WorldValue D) (listed : List ℕ) (acts : List Act) → Stands blocks_told w s acts
+    → Stands blocks_told (record w { listed = listed }) s acts
+stands_with blocks_told s w listed acts stands = record { at = stands.at; sets = stands.sets; posts = stands.posts; early = stands.early }
+
+pub listed_so : {D : Type 0} (device : Ghosts D) (s : Plan) (event : Event) (answer : Answer) (old new : WorldValue D)
+    → IsStepped device old new s event answer → IsStepped device old (record new { listed = listed_after answer new.listed }) s event answer
+listed_so device s event Blocked old new step = record { same = step.same; not_enabled = step.not_enabled }
+listed_so device s event (Moved o) old new step =
+    let listed = if lists_sets o.told then new.listed else [] in
+    record {
+      is_enabled = step.is_enabled;
+      is_allowed = step.is_allowed;
+      outcome = λ acts rows stands are.
+          let out = step.outcome acts rows stands are in
+          record {
+            fits = out.fits;
+            lists = lists_then (tells_of device.told s old.devices) (reply s (state s acts) (told_act event o.told)) o.told new.listed rows out.fits out.lists;
+            evicts = out.evicts;
+            loses = out.loses;
+            order = out.order;
+            ends = out.ends;
+          };
+      stands_for = λ acts stands. stands_with device.told s new listed _ (step.stands_for acts stands);
+      is_of = record { devices = step.is_of.devices; number = step.is_of.number; groups = step.is_of.groups; writers = step.is_of.writers };
+      tells = step.tells;
+      later = step.later;
+      rose = step.rose;
+      unfailed = step.unfailed;
+    }
+
+-- ## A move, by counts of devices that say nothing of their faults.
 
 -- the devices as they are told to fail
 abbrev pub unsaid : {D : Type 0} → Ghosts D → Ghosts D
@@ -89,7 +127,7 @@ module _ {D : Type 0} (device : Ghosts D) where
       → RoseFor s v (map (λ (d : D). uncounted d) xs) (map (λ (d : D). uncounted d) ys)
   rose_for s v xs ys rose = grind (arith, rose_unsaid)
 
-  pub step_unsaid : (old new : WorldValue D) (s : Plan) (event : Event) (reply : Reply) → IsStepped device old new s event reply
+  pub step_unsaid : (old new : WorldValue D) (s : Plan) (event : Event) (reply : Answer) → IsStepped device old new s event reply
       → IsStepped (unsaid device) old new s event reply
   step_unsaid old new s event Blocked step = step
   step_unsaid old new s event (Moved o) moves =
@@ -107,12 +145,12 @@ module _ {D : Type 0} (device : Ghosts D) where
       }
 
   -- over devices of which no call fails it is clean
-  pub step_clean : (old new : WorldValue D) (s : Plan) (event : Event) (reply : Reply) → NeverFails device.count → IsStepped device old new s event reply
+  pub step_clean : (old new : WorldValue D) (s : Plan) (event : Event) (reply : Answer) → NeverFails device.count → IsStepped device old new s event reply
       → HasMark Clean reply
   step_clean old new s event reply never step = grind (arith, never_alone)
 
   -- a step by the calls of the devices is one that is told to be clean
-  pub told_clean : (old new : WorldValue D) (s : Plan) (event : Event) (r : Result Reply OutOfMemory) → OnErr r (new ≡ old) → (IsErr r → takes_memory event ≡ true)
+  pub told_clean : (old new : WorldValue D) (s : Plan) (event : Event) (r : Result Answer OutOfMemory) → OnErr r (new ≡ old) → (IsErr r → takes_memory event ≡ true)
       → IfOk r (IsStepped device old new s event) → (event ≡ Provider → IfOk r (StepLasts device new s)) → IsMarked device old new s event Clean r
   told_clean old new s event (Ok reply) same takes step lasts = record {
     stepped = step_unsaid old new s event reply step;
@@ -122,7 +160,7 @@ module _ {D : Type 0} (device : Ghosts D) where
   told_clean old new s event (Err e) same takes step lasts = grind arith
 
   -- and the list of sets ends with it
-  pub told_listed : (old new : WorldValue D) (s : Plan) (event : Event) (mark : Mark) (reply : Reply) → IsToldStep device old new s event mark reply
+  pub told_listed : (old new : WorldValue D) (s : Plan) (event : Event) (mark : Mark) (reply : Answer) → IsToldStep device old new s event mark reply
       → IsToldStep device old (record new { listed = listed_after reply new.listed }) s event mark reply
   told_listed old new s event mark Blocked made =
       record { stepped = listed_so (unsaid device) s event Blocked old new made.stepped; marked = made.marked; lasts = made.lasts }

@@ -2,13 +2,11 @@
 pub use Rattle.provider.proofs.Words.{AreFresh, AreGroups, AreKept, AreLasting, AreWhole, AreWithout, CanCutOn, HasCause, HasGroups, HasImage, HasStepCause, HasSyncCause, IfStandFor, IsDigestShown}
 pub use Rattle.provider.proofs.Words.{IsDigestTold, IsDigestedAt, IsDropped, IsPointOf, IsRevert, IsShown, LastsAt, ProviderValue, RoseAlone, area_place, counts_of, devices_of, fault_of, history_at}
 pub use Rattle.provider.proofs.Words.{holders, images_going, point_before, refusal, slice_get-set_other, slice_get-set_same, slice_get_inside, step_taken, told_at, volume_place}
-pub use Rattle.provider.proofs.DroppedAll.{count_within}
-pub use Rattle.provider.proofs.Ended.{copies_in_group}
+pub use Rattle.provider.proofs.Dropped.{count_within}
+pub use Rattle.provider.proofs.InGroup.{copies_in_group, find_same, blocks_there}
 pub use Rattle.provider.proofs.Flat.{area_device_at, area_is_set, device_at}
 pub use Rattle.provider.proofs.Found.{found_row, inside, told_here}
-pub use Rattle.provider.proofs.InGroup.{find_same}
 pub use Rattle.provider.proofs.Kept.{kept_same, kept_trans, later_same, tells_of-at}
-pub use Rattle.provider.proofs.Places.{blocks_there}
 pub use Rattle.std.proofs.lemmas.List.{map-append}
 pub use Rattle.vss_model.specs.Words.{Act, Agenda, AgendaEnds, AllLive, AreInTime, AreLater, AreLive, AsyncCancelled, AsyncPending, BackEnd, BackupComplete, BadState, BlockOf, BlocksOf, Calls, Clean}
 pub use Rattle.vss_model.specs.Words.{Coded, Commit, Complete, Copy, Course, Cut, DeleteImage, DeleteSet, Deleted, Differ, Distinct, End, Ending, EndsAs, Entry, Evicted, Failed, Fault, FaultAfter}
@@ -61,17 +59,16 @@ pub use Rattle.vss_world.specs.Words.{CoordinatorState, IsAt, IsAtOver, IsInOrde
 pub use Rattle.vss_world.specs.Words.{SessionMove, SessionsValue, SetFacts, after_move, classes_registered, current_of, double_of, event_volumes, facts_of, failed_set, images_after, is_add, later_by}
 pub use Rattle.vss_world.specs.Words.{place_of, registered_in, told_alone, without_images, writer_count}
 pub use Rattle.coordinator.proofs.Following.{left-is}
-pub use Rattle.sessions.proofs.Adding.{adds, adds_not}
+pub use Rattle.sessions.proofs.Lines.{adds, adds_not, line_of, not_started}
 pub use Rattle.sessions.proofs.Concluding.{current_kept, no_row}
-pub use Rattle.sessions.proofs.Lines.{line_of, not_started}
-pub use Rattle.sessions.proofs.Moving.{happens_moves, refused_happens}
+pub use Rattle.sessions.proofs.CourseSteps.{happens_moves, refused_happens}
 pub use Rattle.sessions.proofs.Newest.{length_bare}
 pub use Rattle.vss_world.specs.Changes.{IsEndPrepared, IsEnded, IsEndedAs, IsReleased, IsSettled, IsWriteBy, IsWriteLine, MakesRoom, begins_snapshot, told_if}
-pub use Rattle.vss_world.specs.Devices.{AllTied, RoseFor, tells_of, told_by, told_of}
+pub use Rattle.vss_world.specs.Changes.{IsBlockSeen, IsBlockTold, IsDigestOf, IsDigestSeen, IsDigestedIf, IsFingerprint, IsReading, IsWide}
+pub use Rattle.vss_world.specs.Stands.{AllTied, RoseFor, tells_of, told_by, told_of, AreBelow, IfStands, IsAgendaIn, IsInPlan, IsOf, IsPrepared, IsStanding}
+pub use Rattle.vss_world.specs.Stands.{MembersBelow, SetsBelow, Stands, StandsAt, WorldValue, number_prepared}
 pub use Rattle.vss_world.specs.Moves.{IsBlocked, IsMoved, IsStepped, listed_after, lists_sets, simple_outcome, volume_by, volume_of, volume_of_step}
 pub use Rattle.vss_world.specs.Quiet.{AreDevicesAlone, AreFirst, AreNew, HasRegistered, IsAreaHeld, IsQuiet, IsSynced, registered_as}
-pub use Rattle.vss_world.specs.Reading.{IsBlockSeen, IsBlockTold, IsDigestOf, IsDigestSeen, IsDigestedIf, IsFingerprint, IsReading, IsWide}
-pub use Rattle.vss_world.specs.Stands.{AreBelow, IfStands, IsAgendaIn, IsInPlan, IsOf, IsPrepared, IsStanding, MembersBelow, SetsBelow, Stands, StandsAt, WorldValue, number_prepared}
 pub use Rattle.vss_world.specs.declared.fingerprint.Fingerprint.{Fingerprint}
 pub use Rattle.vss_world.specs.declared.reply.Reply.{Reply}
 pub use Rattle.vss_world.specs.declared.reply.Reply.TheVariants.{Blocked, Moved}

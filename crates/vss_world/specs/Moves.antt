@@ -12,8 +12,7 @@ use Rattle.vss_model.specs.declared.told.Told.TheVariants as told
 use Rattle.write_history.specs.declared.mark.Mark.TheVariants.{Fault}
 use Rattle.vss_world.specs.declared.reply.Reply.{Reply}
 use Rattle.vss_world.specs.declared.reply.Reply.TheVariants.{Blocked, Moved}
-use Rattle.vss_world.specs.Devices.{tells_of, RoseFor}
-use Rattle.vss_world.specs.Stands.{WorldValue, IfStands, IsOf, Stands}
+use Rattle.vss_world.specs.Stands.{tells_of, RoseFor, WorldValue, IfStands, IsOf, Stands}
 
 -- ## events
 

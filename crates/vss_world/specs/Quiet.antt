@@ -7,8 +7,7 @@ use Rattle.vss_model.specs.Words.{used}
 use Rattle.provider.specs.Words.{GroupValue, LastsAt, StandsFor}
 use Rattle.vss_world.specs.Words.{AreGroups, AreLater, CoordinatorState, IsOf as IsSessionsOf, IsOnTime, Keeps, ProviderValue, Registered, SessionsValue, Stands as CoordinatorStands, area_place}
 use Rattle.vss_world.specs.Words.{writer_count}
-use Rattle.vss_world.specs.Devices.{tells_of, AreaHolds}
-use Rattle.vss_world.specs.Stands.{WorldValue, IsOf, Stands}
+use Rattle.vss_world.specs.Stands.{tells_of, AreaHolds, WorldValue, IsOf, Stands}
 
 -- ## the beginning
 

@@ -2,8 +2,8 @@
 pub use Rattle.coordinator.specs.Coordinator.{CoordinatorState, IsOnTime, Registered, Stands, double_of, place_of, registered_in, writer_count}
 pub use Rattle.coordinator.specs.declared.register_fault.RegisterFault.{RegisterFault}
 pub use Rattle.provider.specs.Calls.{AreWithout, GoUpTo, HasImage, HasRoom, IfShown, IsDigestTold, IsQuiet, IsThere, images_going}
-pub use Rattle.provider.specs.Devices.{AreLater, HasCause, IsCallOn, RoseAlone, area_place, devices_of, first_place, volume_place, volumes_area}
-pub use Rattle.provider.specs.Groups.{AreGroups, HasGroups, IfStandFor}
+pub use Rattle.provider.specs.Groups.{AreLater, HasCause, IsCallOn, RoseAlone, area_place, devices_of, first_place, volume_place, volumes_area, AreGroups}
+pub use Rattle.provider.specs.Groups.{HasGroups, IfStandFor}
 pub use Rattle.provider.specs.Preparing.{ProviderValue}
 pub use Rattle.sessions.specs.Concluded.{failed_set, told_alone, without_images}
 pub use Rattle.sessions.specs.Keeps.{IsAt, IsInOrder, IsOf, IsStanding, IsStandingIn, Keeps, Leaves, LeavesWithin, SessionsValue, classes_registered, later_by}

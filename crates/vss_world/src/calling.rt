@@ -10,8 +10,7 @@ ghost use Rattle.vss_world.specs.Stands.{IsOf, IsStanding};
 ghost use Rattle.vss_world.specs.Moves.{IsStepped};
 ghost use Rattle.vss_world.specs.Changes.{begins_snapshot, IsEndPrepared};
 
-use crate::outcomes::{coded, told};
-use crate::reply::Reply;
+use crate::reply::{Reply, coded, told};
 use crate::settling::settle;
 use crate::world::World;
 use provider::Provider;

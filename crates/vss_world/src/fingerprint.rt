@@ -1,6 +1,6 @@
 ghost use Rattle.std.specs.Prelude.{◌≡◌, length};
 ghost use Rattle.hex.specs.Hex.{IsBytes};
-ghost use Rattle.vss_world.specs.Reading.{IsFingerprint, IsWide};
+ghost use Rattle.vss_world.specs.Changes.{IsFingerprint, IsWide};
 
 use block_data::{BLOCK, digest};
 use vss_model::Told;

@@ -9,13 +9,11 @@
 
 mod beginning;
 mod calling;
-mod enabling;
 mod evicted_images;
 mod fingerprint;
 mod lines;
 mod listed_sets;
 mod marked;
-mod outcomes;
 mod passing;
 mod reading;
 mod removing;

@@ -1,10 +1,11 @@
-//! A line of a lane.
+//! A line of a lane: whether it waits, and what it makes.
 
 ghost use Rattle.std.specs.Prelude.{◌≡◌, ◌<◌, true, length, IfOk, IsErr, OnErr};
 ghost use Rattle.scenario.specs.Bounds.{IsOp};
+ghost use Rattle.vss_model.specs.Acts.{line_enabled};
 ghost use Rattle.vss_model.specs.declared.event.Event.TheVariants.{Line as LineEvent};
 ghost use Rattle.sessions.specs.Moves.{takes_memory};
-ghost use Rattle.vss_world.specs.Stands.{IsOf, IsStanding};
+ghost use Rattle.vss_world.specs.Stands.{IsOf, IsStanding, IfStands};
 ghost use Rattle.vss_world.specs.Moves.{IsStepped};
 
 use crate::reply::Reply;
@@ -15,6 +16,21 @@ use volume_device::Device;
 use vss_names::OutOfMemory;
 
 impl<D: Device> World<D> {
+    /// Whether a line does not wait.
+    pub(crate) fn may_go(&self, scenario: &Scenario, lane: u32, op: Op) -> bool
+        requires of { IsOf self.now scenario.now }
+        requires standing { IsStanding D.told self.now scenario.now }
+        requires lane { lane < length scenario.now.lanes }
+        requires in_range { IsOp scenario.now op }
+        ensures { IfStands D.told self.now scenario.now (λ st. result ≡ line_enabled scenario.now st lane op) }
+    {
+        match op.line() {
+            Line::Writes { volume, .. } => self.may_write(scenario, lane, volume),
+            Line::Calls(call) => self.sessions.may_call(lane, call),
+            _ => true,
+        }
+    }
+
     /// Makes a line.
     pub(crate) fn line(
         &mut self,

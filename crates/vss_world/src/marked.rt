@@ -9,8 +9,7 @@ ghost use Rattle.vss_world.specs.declared.reply.Reply.TheVariants.{Moved};
 ghost use Rattle.vss_world.specs.Stands.{IsOf, IsStanding};
 ghost use Rattle.vss_world.specs.Moves.{AreListed, IsEvent, IsMarked, IsToldStep, simple_outcome, takes_memory};
 
-use crate::outcomes::told;
-use crate::reply::Reply;
+use crate::reply::{Reply, told};
 use crate::settling::settle;
 use crate::world::World;
 use scenario::{Line, Op, Scenario};

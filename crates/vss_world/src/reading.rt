@@ -1,9 +1,9 @@
 //! What is read of a volume or of an image: in place where the device lends its blocks, and else by one buffer.
 
-ghost use Rattle.std.specs.Prelude.{◌<◌, length, Some};
+ghost use Rattle.std.specs.Prelude.{◌<◌, length};
 ghost use Rattle.scenario.specs.Bounds.{IsBlock};
 ghost use Rattle.provider.specs.Groups.{HasGroups};
-ghost use Rattle.vss_world.specs.Reading.{IsBlockSeen, IsDigestSeen, IsSeenIf};
+ghost use Rattle.vss_world.specs.Changes.{IsBlockSeen, IsDigestSeen, IsSeenIf};
 
 use crate::fingerprint::Fingerprint;
 use block_data::BlockBuf;
@@ -38,18 +38,19 @@ pub(crate) fn read_block<D: Device>(
     }
 }
 
-/// What is told of all blocks that the image of a set shows; none where no such image stands.
-pub(crate) fn digest_image<D: Device>(
+/// What is told of all blocks of a volume, as it is or as the image of a set shows it; none where no such image stands.
+pub(crate) fn read_digest<D: Device>(
     provider: &mut Provider<D>,
     scenario: &Scenario,
-    set: u32,
     volume: u32,
+    set: Option<u32>,
 ) -> Option<Told>
     requires volume { volume < length scenario.now.volumes }
     requires has { HasGroups scenario.now provider.old.groups }
-    ensures { IsSeenIf D.told scenario.now provider.old provider.new volume (Some set) (IsDigestSeen D.Device scenario.now provider.old provider.new volume (Some set)) result }
+    ensures { IsSeenIf D.told scenario.now provider.old provider.new volume set
+        (IsDigestSeen D.Device scenario.now provider.old provider.new volume set) result }
 {
-    match provider.digest(scenario, volume, Some(set)) {
+    match provider.digest(scenario, volume, set) {
         Ok(digest) => Some(Told::Digest(digest)),
         Err(ImageFault::NoSuchImage) => None,
         Err(_fault) => Some(Told::Fault),

@@ -8,8 +8,7 @@ ghost use Rattle.vss_world.specs.Stands.{IsOf, IsStanding};
 ghost use Rattle.provider.specs.Words.{NeverFails, counted_as};
 ghost use Rattle.vss_world.specs.Moves.{IsStepped, StopsAfter};
 
-use crate::outcomes::{coded, told};
-use crate::reply::Reply;
+use crate::reply::{Reply, coded, told};
 use crate::world::World;
 use cow_volume::RevertFault;
 use scenario::Scenario;

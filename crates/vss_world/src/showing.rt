@@ -10,9 +10,8 @@ ghost use Rattle.provider.specs.Groups.{HasGroups};
 ghost use Rattle.vss_world.specs.Moves.{IsStepped};
 ghost use Rattle.vss_world.specs.Quiet.{AreKeptSets};
 
-use crate::outcomes::{coded, told};
-use crate::reading::{digest_image, read_block};
-use crate::reply::Reply;
+use crate::reading::{read_block, read_digest};
+use crate::reply::{Reply, coded, told};
 use crate::world::World;
 use provider::Provider;
 use scenario::Scenario;
@@ -102,7 +101,7 @@ impl<D: Device> World<D> {
         if !kept {
             return coded(VssResult::ObjectNotFound);
         }
-        let Some(answer) = digest_image(&mut self.provider, scenario, set, volume) else {
+        let Some(answer) = read_digest(&mut self.provider, scenario, volume, Some(set)) else {
             return coded(VssResult::ObjectNotFound);
         };
         told(answer)

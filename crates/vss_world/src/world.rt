@@ -1,6 +1,5 @@
 ghost use Rattle.std.specs.Prelude.{ℕ, ◌≡◌, ◌<◌, ◌≤◌, Bool, true, List, [], length, map, slice_get, Option, Some, None, is_some, OnErr, OnOk, IfOk, IfErr, IfSome, IsErr, IsOk, All};
-ghost use Rattle.std.specs.List.{concat};
-ghost use Rattle.write_history.specs.History.{contents, point_in, sets_of};
+ghost use Rattle.write_history.specs.History.{point_in, sets_of};
 ghost use Rattle.write_history.specs.Slots.{used};
 ghost use Rattle.scenario.specs.Plan.{Plan, blocks_of};
 ghost use Rattle.scenario.specs.declared.op.Op.TheVariants as op;
@@ -8,13 +7,11 @@ ghost use Rattle.coordinator.specs.OpenOrders.{standing_in};
 ghost use Rattle.sessions.specs.Moves.{IsNextStep};
 ghost use Rattle.vss_model.specs.Acts.{Act, state, enabled};
 ghost use Rattle.vss_model.specs.State.{history_of, kept};
-ghost use Rattle.vss_model.specs.Told.{IsDigestIf};
 ghost use Rattle.vss_model.specs.declared.event.Event.TheVariants.{Line, Provider as ProviderEvent, Idle, Answer as AnswerEvent};
 ghost use Rattle.cow_volume.specs.Calls.{LastsAt};
-ghost use Rattle.provider.specs.Devices.{AreSized, devices_of, area_place, volume_place, RoseAlone};
-ghost use Rattle.vss_world.specs.Devices.{tells_of, HasFailed};
-ghost use Rattle.vss_world.specs.Reading.{IsDigestedIf};
-ghost use Rattle.vss_world.specs.Stands.{IsOf, Stands, IsStanding, IfStands};
+ghost use Rattle.provider.specs.Groups.{AreSized, devices_of, area_place, volume_place, RoseAlone};
+ghost use Rattle.vss_world.specs.Stands.{tells_of, HasFailed, IsOf, Stands, IsStanding, IfStands};
+ghost use Rattle.vss_world.specs.Changes.{IsDigestOf, IsDigestedIf};
 ghost use Rattle.vss_world.specs.Moves.{IsEvent, IsStepped, IsMoved, StepLasts, AreListed, listed_after, lists_sets, takes_memory, simple_outcome};
 ghost use Rattle.vss_world.specs.Quiet.{AreNew, IsQuiet, IsSynced, IsAreaHeld};
 
@@ -50,7 +47,7 @@ pub struct World<D: Device> {
 }
 
 impl<D: Device> Model for World<D> {
-    ghost use Rattle.provider.specs.Devices.{devices_of};
+    ghost use Rattle.provider.specs.Groups.{devices_of};
     ghost use Rattle.vss_world.specs.Stands.{WorldValue};
 
     ghost Value = { WorldValue D };
@@ -239,40 +236,27 @@ impl<D: Device> World<D> {
         kept_sets(&self.provider, &self.sessions, scenario, volume)
     }
 
-    /// The SHA-256 of all blocks of a volume, in order.
-    pub fn digest(&mut self, scenario: &Scenario, volume: u32) -> Result<[u8; 32], Cause>
-        requires of { IsOf self.old scenario.now }
-        requires in_range { volume < length scenario.now.volumes }
-        ensures digest { IfOk result (λ digest. IfStands D.told self.old scenario.now (λ st. IsDigestIf (slice_get (tells_of D.told scenario.now self.old.devices) volume)
-            (concat (contents (blocks_of scenario.now volume) (history_of st volume).writes (length (history_of st volume).writes))) digest)) }
-        ensures quiet { IsQuiet D.Device self.old self.new scenario.now }
-        ensures same { OnOk result (map D.count self.new.devices ≡ map D.count self.old.devices) }
-        ensures cause { IfErr result (λ fault. HasFailed scenario.now volume fault (map D.count self.old.devices) (map D.count self.new.devices)) }
-    {
-        match self.provider.digest(scenario, volume, None) {
-            Ok(digest) => Ok(digest),
-            Err(fault) => Err(fault.cause()),
-        }
-    }
-
-    /// The SHA-256 of all blocks of a kept image, in order.
-    pub fn digest_image(
+    /// The SHA-256 of all blocks of a volume, as it is or as its kept image of a set shows it, in order.
+    pub fn digest(
         &mut self,
         scenario: &Scenario,
-        set: u32,
         volume: u32,
+        set: Option<u32>,
     ) -> Result<[u8; 32], Cause>
         requires of { IsOf self.old scenario.now }
-        requires standing { IsStanding D.told self.old scenario.now }
+        requires standing { IfSome set (λ n. IsStanding D.told self.old scenario.now) }
         requires in_range { volume < length scenario.now.volumes }
-        requires is_kept { IfStands D.told self.old scenario.now (λ st. is_some (point_in set (kept st (history_of st volume))) ≡ true) }
-        ensures digest { IfOk result (λ digest. IfStands D.told self.old scenario.now (λ st. (point : ℕ) → point_in set (kept st (history_of st volume)) ≡ Some point
-            → IsDigestIf (slice_get (tells_of D.told scenario.now self.old.devices) volume) (concat (contents (blocks_of scenario.now volume) (history_of st volume).writes point)) digest)) }
+        requires is_kept { IfSome set (λ n. IfStands D.told self.old scenario.now
+            (λ st. is_some (point_in n (kept st (history_of st volume))) ≡ true)) }
+        ensures digest { IfOk result (λ digest. IfStands D.told self.old scenario.now (λ st.
+            IsDigestOf (tells_of D.told scenario.now self.old.devices) scenario.now st volume set
+            digest)) }
         ensures quiet { IsQuiet D.Device self.old self.new scenario.now }
         ensures same { OnOk result (map D.count self.new.devices ≡ map D.count self.old.devices) }
-        ensures cause { IfErr result (λ fault. HasFailed scenario.now volume fault (map D.count self.old.devices) (map D.count self.new.devices)) }
+        ensures cause { IfErr result (λ fault. HasFailed scenario.now volume fault
+            (map D.count self.old.devices) (map D.count self.new.devices)) }
     {
-        match self.provider.digest(scenario, volume, Some(set)) {
+        match self.provider.digest(scenario, volume, set) {
             Ok(digest) => Ok(digest),
             Err(fault) => Err(fault.cause()),
         }

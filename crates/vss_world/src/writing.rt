@@ -1,20 +1,20 @@
-//! Lines that write a block.
+//! Lines that write a block: whether they wait, and what they make.
 
 ghost use Rattle.std.specs.Prelude.{◌≡◌, ◌<◌, true, length, Err};
-ghost use Rattle.block_data.specs.PayloadBytes.{payload_bytes};
+ghost use Rattle.block_data.specs.BlockBytes.{payload_bytes};
 ghost use Rattle.scenario.specs.Bounds.{IsBlock};
 ghost use Rattle.scenario.specs.declared.op.Op.{Op};
 ghost use Rattle.write_history.specs.declared.mark.Mark.TheVariants.{Fault};
+ghost use Rattle.vss_model.specs.Acts.{may_write};
 ghost use Rattle.vss_model.specs.declared.event.Event.TheVariants.{Line};
 ghost use Rattle.provider.specs.Calls.{HasRoom, IsPut};
 ghost use Rattle.provider.specs.Groups.{HasGroups};
 ghost use Rattle.provider.specs.Words.{Volume, counted_as};
-ghost use Rattle.vss_world.specs.Stands.{IsOf, IsStanding};
+ghost use Rattle.vss_world.specs.Stands.{IsOf, IsStanding, IfStands};
 ghost use Rattle.vss_world.specs.Moves.{HasMark, IsStepped};
 ghost use Rattle.vss_world.specs.Changes.{IsWriteLine, told_if};
 
-use crate::outcomes::told;
-use crate::reply::Reply;
+use crate::reply::{Reply, told};
 use crate::world::World;
 use block_data::Payload;
 use cow_volume::Cause;
@@ -25,6 +25,25 @@ use vss_model::{Outcome, Told};
 use vss_names::{SetOutcome, VssResult};
 
 impl<D: Device> World<D> {
+    /// Whether a write of this lane to a volume may go. It waits while the volume is held, and while the writer as which the lane acts
+    /// stands frozen.
+    pub(crate) fn may_write(&self, scenario: &Scenario, lane: u32, volume: u32) -> bool
+        requires of { IsOf self.now scenario.now }
+        requires standing { IsStanding D.told self.now scenario.now }
+        requires lane { lane < length scenario.now.lanes }
+        requires volume { volume < length scenario.now.volumes }
+        ensures { IfStands D.told self.now scenario.now (λ st. result ≡ may_write scenario.now st lane volume) }
+    {
+        let _facts = scenario.volumes();
+        if self.sessions.is_held(volume) {
+            return false;
+        }
+        let Some(writer) = scenario.acts_as(lane) else {
+            return true;
+        };
+        !self.sessions.is_frozen(writer)
+    }
+
     /// Writes a block, where that does not wait. Where images have to go for it, and one of the set in progress is among them, the set
     /// fails. It is the step of each line that makes this write. Where `fails`, the block is not put, as if the volume's device had
     /// failed.

@@ -4,7 +4,7 @@
 -- time is that of the SDK's overview of shadow copies.)
 use Rattle.std.specs.Prelude.{ℕ, ◌<◌, ◌≤◌, Bool, List, [], ◌∷◌, ◌++◌, length, take, drop, map, filter, nat_lt, ◌==◌, not, if◌then◌else◌, Option, Some, None}
 use Rattle.std.specs.List.{list_any, range_with_len}
-use Rattle.block_data.specs.Runs.{zeros}
+use Rattle.block_data.specs.BlockBytes.{zeros}
 
 -- an effective write: a block, and the bytes that it then has
 pub record Write : Type 0 where

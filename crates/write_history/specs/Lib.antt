@@ -1,4 +1,3 @@
 pub mod History
-pub mod Messages
+pub mod Trail
 pub mod Slots
-pub mod TrailValue

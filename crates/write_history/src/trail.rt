@@ -1,6 +1,5 @@
 ghost use Rattle.std.specs.Prelude.{◌≡◌, ◌+◌, ◌-◌, ◌<◌, ◌≤◌, ◌++◌, ◌∷◌, ◌↔◌, [], length, slice_get, vec_len, vec_capacity, IsOk, IsTrue, OnOk, OnErr, IsErrOf, Some};
-ghost use Rattle.write_history.specs.Messages.{message_of};
-ghost use Rattle.write_history.specs.TrailValue.{TrailValue};
+ghost use Rattle.write_history.specs.Trail.{message_of, TrailValue};
 ghost use Rattle.write_history.specs.declared.trail.TheConstants.{MOST_MOVES};
 
 use crate::move_item::Move;

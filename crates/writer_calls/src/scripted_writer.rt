@@ -41,7 +41,7 @@ impl ScriptedWriter {
 impl VssWriter for ScriptedWriter {
     ghost use Rattle.std.specs.Prelude.{◌≡◌};
     ghost use Rattle.writer_calls.specs.Script.{scripted_answer};
-    ghost use Rattle.writer_state.specs.WriterRow.{one_more};
+    ghost use Rattle.writer_state.specs.WriterState.{one_more};
 
     ghost may_answer = { λ w order nth answer. answer ≡ scripted_answer w.rows order nth };
 

@@ -10,7 +10,7 @@ use vss_names::Order;
 pub trait VssWriter: Send + Drop {
     ghost use Rattle.std.specs.Prelude.{ℕ, Option};
     ghost use Rattle.vss_names.specs.declared.order.Order.{Order};
-    ghost use Rattle.writer_state.specs.WriterRow.{one_more};
+    ghost use Rattle.writer_state.specs.WriterState.{one_more};
     ghost use Rattle.writer_calls.specs.declared.answer.Answer.{Answer};
 
     /// Whether the writer, as it is, may give this answer to the nth order of this kind.

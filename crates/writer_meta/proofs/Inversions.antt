@@ -1,18 +1,39 @@
--- What a document says is allowed.
-use Rattle.std.proofs.Common.{◌≡◌, ℕ, ◌+◌, ◌≤◌, List, [], ◌∷◌, length, Bool, true, Option, Some, None, Result, Ok, Err, nat_le, if◌then◌else◌, refl, subst, arith}
-use Rattle.std.proofs.lemmas.Bool.Decides.{nat_tests}
-use Rattle.std.specs.List.{list_all}
-use Rattle.std.proofs.lemmas.Grind.{common_steps}
+-- When metadata are allowed, and that what a document says is.
+use Rattle.std.proofs.Common.{◌≡◌, ◌↔◌, ◌<◌, ◌^◌, Bool, true, List, [], ◌∷◌, map, ap, refl, arith, ℕ, ◌+◌, ◌≤◌, length, Option, Some, None, Result, Ok, Err}
+use Rattle.std.proofs.Common.{nat_le, if◌then◌else◌, subst}
 use Rattle.std.proofs.lemmas.Bool.{and_from}
+use Rattle.std.proofs.lemmas.Bool.Decides.{nat_tests}
+use Rattle.std.proofs.lemmas.Grind.{common_steps}
+use Rattle.std.specs.List.{list_all}
+use Rattle.std.specs.Prelude.{◌&&◌, IfOk}
 use Rattle.serde_json.specs.Data.{Data, null, boolean, number, string, array, object, Items, no_items, item, Members}
 use Rattle.serde_json.specs.Find.{as_object}
+use Rattle.writer_meta.specs.Document.{is_allowed_part, AreAllowedParts, IsAllowed, then_on, optional, name_in, freeze_timeout_in, path_in, component_name_in}
+use Rattle.writer_meta.specs.Document.{kind_in, selectable_in, PartRows, rows_in, rows_of_part, part_of_members, part_in, parts_in, count_of, double_after}
+use Rattle.writer_meta.specs.Document.{unless_double, unless_unknown, list_of_parts}
+use Rattle.writer_meta.specs.Metadata.{Meta, part_of, Part}
+use Rattle.writer_meta.specs.Refusal.{Refusal}
+use Rattle.writer_meta.specs.Values.{is_writer_name, is_freeze_timeout, is_component_name, is_path, some_if, string_value, path_value}
+use Rattle.writer_meta.specs.declared.component.Component.{Component}
 use Rattle.writer_meta.specs.declared.field.Field.{Field}
 use Rattle.writer_meta.specs.declared.field.Field.TheVariants as field
-use Rattle.writer_meta.specs.Metadata.{Part}
-use Rattle.writer_meta.specs.Refusal.{Refusal}
-use Rattle.writer_meta.specs.Values.{is_writer_name, is_component_name, is_path, is_freeze_timeout, some_if, string_value, path_value}
-use Rattle.writer_meta.specs.Document.{then_on, optional, name_in, freeze_timeout_in, path_in, component_name_in, kind_in, selectable_in, PartRows, rows_in, rows_of_part, part_of_members, part_in, parts_in, count_of, double_after, unless_double, unless_unknown, list_of_parts}
-use Rattle.writer_meta.specs.Allowed.{is_allowed_part}
+
+-- ## When metadata are allowed, from the tests that are made of them.
+
+-- a test of each component is one of each part
+pub all_parts : (components : List Component) → list_all is_allowed_part (map part_of components) ≡ list_all (λ (c : Component). is_allowed_part (part_of c)) components
+all_parts [] = refl
+all_parts (c ∷ components) = ap (λ (t : Bool). is_allowed_part (part_of c) && t) (all_parts components)
+
+-- ## metadata
+
+-- what the components' test answers is what the metadata's does
+pub parts_if_ok : {E : Type 0} (m : Meta) (named timed : Bool) (result : Result Bool E) → m.class < 2 ^ 128 → named ≡ is_writer_name m.name → named ≡ true → timed ≡ is_freeze_timeout m.freeze_timeout
+    → timed ≡ true
+    → IfOk result (λ are. (are ≡ true) ↔ AreAllowedParts m.parts) → IfOk result (λ are. (are ≡ true) ↔ IsAllowed m)
+parts_if_ok m named timed result narrow is_name name is_timed time parts = grind arith
+
+-- ## What a document says is allowed.
 
 same_value : {A : Type 0} (x y : A) → ◌≡◌ {A = Result A Refusal} (Ok x) (Ok y) → x ≡ y
 same_value x y e = cc

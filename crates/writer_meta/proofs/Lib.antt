@@ -1,9 +1,3 @@
-pub mod Allowed
-pub mod Found
 pub mod Inversions
-pub mod Laws
 pub mod Lists
-pub mod Numbers
-pub mod Refusals
-pub mod Texts
-pub mod Written
+pub mod Laws

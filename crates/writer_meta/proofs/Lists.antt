@@ -1,19 +1,59 @@
--- The lists of a JSON value, step by step.
-use Rattle.std.proofs.Common.{◌≡◌, ◌↔◌, ℕ, ◌+◌, ◌<◌, ◌≤◌, List, [], ◌∷◌, ◌++◌, length, get_or, drop, map, Option, Some, None, Result, Ok, Err, IsOk, refl, sym, ap, ◌∙◌, arith, append-nil, Bool, true, false, ◌||◌, cond, nat_le, string_bytes}
+-- The lists of a JSON value, step by step: what is refused, what is found, and that past the numbers of a table nothing is.
+use Rattle.std.proofs.Common.{◌≡◌, ◌↔◌, ◌∙◌, ℕ, Bool, true, false, true≢false, IsTrue, if◌then◌else◌, List, Option, Some, None, Result, IfErr, IsErrAnd, IsUtf8}
+use Rattle.std.proofs.Common.{sym, arith, ◌+◌, ◌<◌, ◌≤◌, [], ◌∷◌, ◌++◌, length, get_or, drop, map, Ok, Err, IsOk, refl, ap, append-nil, ◌||◌, cond, nat_le}
+use Rattle.std.proofs.Common.{string_bytes, codes, nat_eq}
 use Rattle.std.proofs.lemmas.Bool.Decides.{nat_tests}
-use Rattle.std.proofs.lemmas.List.{drop_more, drop_all, map-append}
-use Rattle.std.specs.List.{list_any}
-use Rattle.std.specs.Str.{bytes_eq}
 use Rattle.std.proofs.lemmas.Grind.{common_steps}
-use Rattle.serde_json.specs.View.{view, items_view, members_view}
+use Rattle.std.proofs.lemmas.List.{drop_more, drop_all, map-append}
+use Rattle.std.proofs.lemmas.Slice.Eq.{bytes_eq-Decides}
+use Rattle.std.proofs.lemmas.Str.{IsUtf8-from_is_utf8, is_utf8-from_IsUtf8}
+use Rattle.std.specs.List.{list_any}
+use Rattle.std.specs.Option.{option_or}
+use Rattle.std.specs.Str.{is_utf8, bytes_eq}
 use Rattle.serde_json.proofs.Views.{Entry}
+use Rattle.serde_json.specs.Data.{Data, Members, no_members, member}
+use Rattle.serde_json.specs.Find.{get_member}
+use Rattle.serde_json.specs.Read.{read}
+use Rattle.serde_json.specs.View.{view, items_view, members_view}
 use Rattle.serde_json.specs.declared.value.Value.{Value}
-use Rattle.writer_meta.specs.declared.component.Component.{Component}
+use Rattle.vss_names.specs.ComponentType.{component_type_of_number}
+use Rattle.vss_names.specs.Level.{level_of_number}
+use Rattle.vss_names.specs.SourceKind.{source_kind_of_number}
+use Rattle.vss_names.specs.Usage.{usage_of_number}
+use Rattle.writer_meta.specs.Document.{then_on, value_of_text, part_in, parts_in, list_of_parts, distinct, count_of, unknown_in, double_after, PartRows}
+use Rattle.writer_meta.specs.Document.{rows_in, is_known, component_members, rows_or, rows_with}
 use Rattle.writer_meta.specs.Metadata.{Part, part_of, full_name}
+use Rattle.writer_meta.specs.Refusal.{Refusal, refusal_of, IsRefused, Tells, HasTooMany}
+use Rattle.writer_meta.specs.declared.component.Component.{Component}
 use Rattle.writer_meta.specs.declared.meta_fault.MetaFault.{MetaFault}
-use Rattle.writer_meta.specs.Refusal.{Refusal, HasTooMany, Tells}
-use Rattle.writer_meta.proofs.Refusals.{Tells-then_on}
-use Rattle.writer_meta.specs.Document.{then_on, part_in, parts_in, list_of_parts, distinct, count_of, unknown_in, double_after}
+
+-- ## A refusal that a part of a document has is the document's, where the parts before it have none.
+
+IsRefused-then_on : {A B : Type 0} (refusal : Option Refusal) (said : Result A Refusal) (more : A → Result B Refusal) → IsRefused refusal said → IsRefused refusal (then_on said more)
+IsRefused-then_on refusal said more h = grind arith
+
+pub Tells-then_on : {A B : Type 0} (fault : MetaFault) (said : Result A Refusal) (more : A → Result B Refusal) → Tells fault said → Tells fault (then_on said more)
+Tells-then_on fault said more h = IsRefused-then_on (refusal_of fault) said more h
+
+-- the same where a call's error is handed on
+pub Tells-handed_on : {T A : Type 0} (r : Result T MetaFault) (fault : MetaFault) (said : Result A Refusal) → IsErrAnd r (λ f. f ≡ fault) → Tells fault said → IfErr r (λ f. Tells f said)
+Tells-handed_on r fault said is h = grind arith
+
+none_if : {A : Type 0} (b : Bool) (found : Option A) → (b ≡ true → found ≡ None) → (if b then found else None) ≡ None
+none_if b found h = grind arith
+
+-- a text that is refused, and not for want of memory, has no value
+pub no_value : {M : Type 0} (text : List ℕ) (memory : Bool) → memory ≡ false → (IsTrue memory ↔ M) → (¬ M → IsUtf8 text → read text ≡ None) → value_of_text text ≡ None
+unfolding value_of_text
+no_value text memory is test none =
+    let other : ¬ _ = λ m. true≢false (sym (test.1 m) ∙ is) in
+    none_if (is_utf8 text) (read text) (λ e. none other (IsUtf8-from_is_utf8 text e))
+
+pub has_value : (text : List ℕ) (d : Data) → IsUtf8 text → read text ≡ Some d → value_of_text text ≡ Some d
+unfolding value_of_text
+has_value text d utf8 is = rw (is_utf8-from_IsUtf8 text utf8) is
+
+-- ## The lists of a JSON value, step by step.
 
 -- a text that is no identifier parses to none
 pub none_parsed : {E : Type 0} (e : E) (found : Option (List ℕ)) → (IsOk {T = List ℕ} (Err e) ↔ ((u : List ℕ) × (found ≡ Some u))) → found ≡ None
@@ -104,3 +144,56 @@ copied_more components copies i c copy within is same so_far = grind (arith, com
 pub copied_all : (components copies : List Component) (i : ℕ) → length components ≤ i
     → map part_of copies ++ map part_of (drop i components) ≡ map part_of components → map part_of copies ≡ map part_of components
 copied_all components copies i past so_far = grind (arith, common_steps, drop_all)
+
+-- ## The values of a component's members, one member after another.
+
+abbrev rows_of : Option Data → Option Data → Option Data → Option Data → PartRows
+rows_of kind path name selectable = record { kind = kind; path = path; name = name; selectable = selectable }
+
+same_rows : {k l p q n m s t : Option Data} → k ≡ l → p ≡ q → n ≡ m → s ≡ t → rows_of k p n s ≡ rows_of l q m t
+same_rows a b c d = cc
+
+-- ## a member that no component has
+
+turned : (a b : List ℕ) → bytes_eq a b ≡ false → bytes_eq b a ≡ false
+turned a b apart = grind (arith, bytes_eq-Decides)
+
+none_of : {a b c d : Bool} → a ≡ false → b ≡ false → c ≡ false → d ≡ false → (a || (b || (c || (d || false)))) ≡ false
+none_of e f g h = rw (e, f, g, h) refl
+
+pub not_known : (name : List ℕ) → bytes_eq name (codes "name") ≡ false → bytes_eq name (codes "path") ≡ false → bytes_eq name (codes "selectable") ≡ false → bytes_eq name (codes "type") ≡ false
+    → is_known component_members name ≡ false
+not_known name n p s t = none_of (turned name (codes "name") n) (turned name (codes "path") p) (turned name (codes "selectable") s) (turned name (codes "type") t)
+
+-- ## all members
+
+found_further : (found : Option Data) (k name : List ℕ) (d : Data) (ms : Members)
+    → option_or (option_or found (get_member k (member name d no_members))) (get_member k ms) ≡ option_or found (get_member k (member name d ms))
+found_further found k name d ms = grind arith
+
+pub rows-further : (k p n s : Option Data) (left more : List Entry) (e : Entry) → left ≡ e ∷ more
+    → rows_or (rows_with (rows_of k p n s) (string_bytes e.0) (view e.1)) (rows_in (members_view more)) ≡ rows_or (rows_of k p n s) (rows_in (members_view left))
+rows-further k p n s left more e step =
+    let f : (found : Option Data) (m : List ℕ) → _ = λ found m. found_further found m (string_bytes e.0) (view e.1) (members_view more) in
+    rw step (same_rows (f k (codes "type")) (f p (codes "path")) (f n (codes "name")) (f s (codes "selectable")))
+
+-- ## Past the numbers of a table nothing is found.
+
+other : (k n : ℕ) → k < n → nat_eq k n ≡ false
+other k n h = grind (arith, nat_tests)
+
+pub no_level_past : (n : ℕ) → 4 < n → level_of_number n ≡ None
+unfolding level_of_number
+no_level_past n h = rw (other 1 n (omega arith), other 2 n (omega arith), other 3 n (omega arith)) refl
+
+pub no_usage_past : (n : ℕ) → 4 < n → usage_of_number n ≡ None
+unfolding usage_of_number
+no_usage_past n h = rw (other 1 n (omega arith), other 2 n (omega arith), other 3 n (omega arith), other 4 n (omega arith)) refl
+
+pub no_source_kind_past : (n : ℕ) → 4 < n → source_kind_of_number n ≡ None
+unfolding source_kind_of_number
+no_source_kind_past n h = rw (other 1 n (omega arith), other 2 n (omega arith), other 3 n (omega arith)) refl
+
+pub no_component_type_past : (n : ℕ) → 4 < n → component_type_of_number n ≡ None
+unfolding component_type_of_number
+no_component_type_past n h = rw (other 1 n (omega arith), other 2 n (omega arith)) refl

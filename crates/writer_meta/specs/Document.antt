@@ -1,21 +1,28 @@
 -- A metadata document: what a text says of a writer, or why it is refused. The checks stand in the order in which the
 -- format makes them, so the refusal is the first. (This project's own format.)
-use Rattle.std.specs.Prelude.{ℕ, ◌+◌, Bool, List, [], ◌∷◌, codes, nat_le, if◌then◌else◌, Option, Some, None, ok_or, Result, Ok, Err}
-use Rattle.std.specs.List.{list_any}
+use Rattle.std.specs.Borrow.{Bor}
+use Rattle.std.specs.List.{list_any, list_all}
+use Rattle.std.specs.Option.{option_or}
+use Rattle.std.specs.Prelude.{ℕ, ◌+◌, Bool, List, [], ◌∷◌, codes, nat_le, if◌then◌else◌, Option, Some, None, ok_or, Result, Ok, Err, option_map, ◌≡◌, ◌<◌, ◌≤◌}
+use Rattle.std.specs.Prelude.{◌^◌, ◌&&◌, length, IsTrue}
 use Rattle.std.specs.Str.{bytes_eq, is_utf8}
 use Rattle.serde_json.specs.Data.{Data, Items, no_items, item, Members, no_members, member}
-use Rattle.serde_json.specs.Read.{read}
 use Rattle.serde_json.specs.Find.{get, get_member, as_array, as_object}
-use Rattle.tick_limits.specs.Time.{default_freeze}
-use Rattle.vss_names.specs.declared.level.Level.{Level}
-use Rattle.vss_names.specs.declared.usage.Usage.{Usage}
-use Rattle.vss_names.specs.declared.source_kind.SourceKind.{SourceKind}
+use Rattle.serde_json.specs.Read.{read}
+use Rattle.serde_json.specs.View.{view}
+use Rattle.serde_json.specs.declared.value.Value.{Value}
 use Rattle.vss_names.specs.declared.component_type.ComponentType.{ComponentType}
-use Rattle.writer_meta.specs.declared.field.Field.{Field}
-use Rattle.writer_meta.specs.declared.field.Field.TheVariants as field
+use Rattle.vss_names.specs.declared.level.Level.{Level}
+use Rattle.vss_names.specs.declared.source_kind.SourceKind.{SourceKind}
+use Rattle.vss_names.specs.declared.usage.Usage.{Usage}
+use Rattle.tick_limits.specs.Time.{default_freeze}
 use Rattle.writer_meta.specs.Metadata.{Part, Meta, full_name}
 use Rattle.writer_meta.specs.Refusal.{Refusal, IsNotJson, Misses, HasWrong, HasUnknown, HasDouble, HasTooMany, member_name}
-use Rattle.writer_meta.specs.Values.{class_value, name_value, level_value, usage_value, source_value, freeze_timeout_value, kind_value, path_value, component_name_value, selectable_value}
+use Rattle.writer_meta.specs.Values.{class_value, name_value, level_value, usage_value, source_value, freeze_timeout_value, kind_value, path_value}
+use Rattle.writer_meta.specs.Values.{component_name_value, selectable_value, is_writer_name, is_component_name, is_path, is_freeze_timeout}
+use Rattle.writer_meta.specs.declared.field.Field.{Field}
+use Rattle.writer_meta.specs.declared.field.Field.TheVariants as field
+use Rattle.writer_meta.specs.declared.part_values.PartValues.{PartValues}
 
 -- what comes of a value, if there is one
 abbrev pub then_on : {A B : Type 0} → Result A Refusal → (A → Result B Refusal) → Result B Refusal
@@ -189,3 +196,41 @@ value_of_text text = if is_utf8 text then read text else None
 -- the metadata that a text is, or the first refusal
 unfoldable pub metadata_in : List ℕ → Result Meta Refusal
 metadata_in text = then_on (ok_or (value_of_text text) IsNotJson) meta_in
+
+-- ## The members of a component as they are found, one after another. (This project's own.)
+
+-- those of the one, and where it has none, those of the other
+abbrev pub rows_or : PartRows → PartRows → PartRows
+rows_or a b = record { kind = option_or a.kind b.kind; path = option_or a.path b.path; name = option_or a.name b.name; selectable = option_or a.selectable b.selectable }
+
+-- with those of one member more
+abbrev pub rows_with : PartRows → List ℕ → Data → PartRows
+rows_with rows name d = rows_or rows (rows_in (member name d no_members))
+
+-- what is found of a value, as data
+abbrev pub seen : Option (Bor Value) → Option Data
+seen found = option_map (λ v. view v.now) found
+
+abbrev pub rows_seen : PartValues → PartRows
+rows_seen values = record { kind = seen values.kind; path = seen values.path; name = seen values.name; selectable = seen values.selectable }
+
+-- ## The metadata that the format allows: those that some document says. (This project's own format.)
+
+abbrev pub is_allowed_part : Part → Bool
+is_allowed_part part = is_path part.path && is_component_name part.name
+
+-- at most 1,024 components, each of an allowed path and name, no two of one full name
+pub record AreAllowedParts (parts : List Part) : Type 0 where
+  pub few : length parts ≤ 1024
+  pub each : IsTrue (list_all is_allowed_part parts)
+  pub distinct : double_after [] parts ≡ None
+
+-- a class of sixteen bytes, names and paths of the allowed bytes and lengths, a time-out that a writer may state, and
+-- at most 1,024 components, no two of one full name
+pub record IsAllowed (m : Meta) : Type 0 where
+  pub class : m.class < 2 ^ 128
+  pub name : IsTrue (is_writer_name m.name)
+  pub freeze_timeout : IsTrue (is_freeze_timeout m.freeze_timeout)
+  pub few : length m.parts ≤ 1024
+  pub parts : IsTrue (list_all is_allowed_part m.parts)
+  pub distinct : double_after [] m.parts ≡ None

@@ -1,8 +1,7 @@
 ghost use Rattle.std.specs.Prelude.{◌≡◌, IfOk, IfErr};
 ghost use Rattle.serde_json.specs.View.{view};
 ghost use Rattle.writer_meta.specs.Refusal.{Tells};
-ghost use Rattle.writer_meta.specs.Document.{part_in, rows_of_part};
-ghost use Rattle.writer_meta.specs.Members.{rows_seen};
+ghost use Rattle.writer_meta.specs.Document.{part_in, rows_of_part, rows_seen};
 
 use crate::field::Field;
 use crate::meta_fault::MetaFault;
@@ -26,9 +25,8 @@ pub struct Component {
 
 impl Component {
     ghost use Rattle.std.specs.Prelude.{IsTrue};
-    ghost use Rattle.writer_meta.specs.Metadata.{part_of, full_name};
-    ghost use Rattle.writer_meta.specs.Allowed.{is_allowed_part};
-    ghost use Rattle.writer_meta.specs.Written.{part_data};
+    ghost use Rattle.writer_meta.specs.Metadata.{part_of, full_name, part_data};
+    ghost use Rattle.writer_meta.specs.Document.{is_allowed_part};
 
     /// The name where the path is empty, else the path, a backslash and the name.
     pub fn full_name(&self, alloc: Global) -> Result<Text, OutOfMemory>
@@ -97,7 +95,7 @@ impl Component {
     }
 
     /// The JSON value that is written of the component.
-    #[tactic(auto, unfolding(crate::specs::Written::part_data))]
+    #[tactic(auto, unfolding(crate::specs::Metadata::part_data))]
     pub(crate) fn to_value(&self, alloc: Global) -> Result<Value, OutOfMemory>
         requires { IsTrue (is_allowed_part (part_of self.now)) }
         ensures { IfOk result (λ value. view value ≡ part_data (part_of self.now)) }

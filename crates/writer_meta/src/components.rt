@@ -28,11 +28,9 @@ impl Components {
     ghost use Rattle.std.specs.List.{list_all};
     ghost use Rattle.serde_json.specs.Data.{array};
     ghost use Rattle.serde_json.specs.View.{view, items_view};
-    ghost use Rattle.writer_meta.specs.Allowed.{is_allowed_part, AreAllowedParts};
-    ghost use Rattle.writer_meta.specs.Written.{parts_data};
-    ghost use Rattle.writer_meta.specs.Metadata.{part_of};
+    ghost use Rattle.writer_meta.specs.Document.{is_allowed_part, AreAllowedParts, parts_in, list_of_parts};
+    ghost use Rattle.writer_meta.specs.Metadata.{parts_data, part_of};
     ghost use Rattle.writer_meta.specs.Refusal.{Tells};
-    ghost use Rattle.writer_meta.specs.Document.{parts_in, list_of_parts};
 
     /// These components, without taking memory.
     pub fn of(items: Vec<Component>) -> Components
@@ -71,7 +69,7 @@ impl Components {
         Ok(double.is_none())
     }
 
-    #[tactic(auto, using(crate::proofs::Allowed::all_parts))]
+    #[tactic(auto, using(crate::proofs::Inversions::all_parts))]
     fn each_part_is_allowed(components: &[Component]) -> bool
         ensures { result ≡ list_all is_allowed_part (map part_of components.now) }
     {

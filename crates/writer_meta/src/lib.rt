@@ -3,8 +3,8 @@
 //!
 //! Contracts see the metadata as plain bytes and a list of parts (`specs/Metadata.antt`), and a document as what it says
 //! or the first refusal in the order of its format (`specs/Document.antt`, over the values of `specs/Values.antt`).
-//! Reading answers exactly that, but for want of memory. What is read is allowed (`specs/Allowed.antt`), and what is
-//! written of allowed metadata (`specs/Written.antt`) reads back as these metadata.
+//! Reading answers exactly that, but for want of memory. What is read is allowed (`specs/Document.antt`), and what is
+//! written of allowed metadata (`specs/Metadata.antt`) reads back as these metadata.
 #![tactic(auto)]
 
 mod component;

@@ -1,5 +1,5 @@
 ghost use Rattle.std.specs.Prelude.{◌≡◌, Some};
-ghost use Rattle.writer_meta.specs.Messages.{message_of, number_of};
+ghost use Rattle.writer_meta.specs.Refusal.{message_of, number_of};
 
 use crate::field::Field;
 use crate::shown::Shown;

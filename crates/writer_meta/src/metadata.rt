@@ -2,7 +2,7 @@ ghost use Rattle.std.specs.Prelude.{◌≡◌, ◌≤◌, ◌↔◌, length, ok_
 ghost use Rattle.serde_json.specs.View.{view};
 ghost use Rattle.writer_meta.specs.Refusal.{Tells, IsNotJson};
 ghost use Rattle.writer_meta.specs.Document.{rows_of_meta, meta_in, value_of_text, metadata_in};
-ghost use Rattle.writer_meta.specs.Written.{class_text as class_text_of};
+ghost use Rattle.writer_meta.specs.Metadata.{class_text as class_text_of};
 
 use crate::components::Components;
 use crate::field::Field;
@@ -29,9 +29,8 @@ pub struct Metadata {
 }
 
 impl Metadata {
-    ghost use Rattle.writer_meta.specs.Metadata.{meta_of};
-    ghost use Rattle.writer_meta.specs.Allowed.{IsAllowed};
-    ghost use Rattle.writer_meta.specs.Written.{meta_data, document_text};
+    ghost use Rattle.writer_meta.specs.Metadata.{meta_of, meta_data, document_text};
+    ghost use Rattle.writer_meta.specs.Document.{IsAllowed};
 
     /// The metadata that a document is. A time-out that is not said is 60,000 ticks, and a path that is not said is
     /// empty.
@@ -45,7 +44,7 @@ impl Metadata {
     }
 
     /// Whether the format allows the metadata, as `to_json` asks.
-    #[tactic(auto, using(crate::proofs::Allowed::parts_if_ok))]
+    #[tactic(auto, using(crate::proofs::Inversions::parts_if_ok))]
     pub fn is_allowed(&self, alloc: Global) -> Result<bool, OutOfMemory>
         ensures { IfOk result (λ allowed. IsTrue allowed ↔ IsAllowed (meta_of self.now)) }
     {
@@ -71,7 +70,7 @@ impl Metadata {
         Ok(Text::of(text))
     }
 
-    #[tactic(auto, unfolding(crate::specs::Written::meta_data))]
+    #[tactic(auto, unfolding(crate::specs::Metadata::meta_data))]
     fn to_value(&self, alloc: Global) -> Result<Value, OutOfMemory>
         requires { IsAllowed (meta_of self.now) }
         ensures { IfOk result (λ value. view value ≡ meta_data (meta_of self.now)) }

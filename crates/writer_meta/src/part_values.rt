@@ -1,8 +1,7 @@
 //! The members of a component, found in one pass.
 ghost use Rattle.std.specs.Prelude.{◌≡◌, None, Some, IfOk, IfErr, IfSome, is_some};
 ghost use Rattle.serde_json.specs.View.{view, members_view};
-ghost use Rattle.writer_meta.specs.Document.{unknown_in, is_known, component_members, rows_in};
-ghost use Rattle.writer_meta.specs.Members.{rows_with, rows_seen};
+ghost use Rattle.writer_meta.specs.Document.{unknown_in, is_known, component_members, rows_in, rows_with, rows_seen};
 
 use serde_json::{Map, Value};
 
@@ -17,7 +16,7 @@ pub(crate) struct PartValues<'v> {
 
 impl<'v> PartValues<'v> {
     /// The values with those of one member more; none where no component has such a member.
-    #[tactic(auto, using(crate::proofs::Found::not_known))]
+    #[tactic(auto, using(crate::proofs::Lists::not_known))]
     fn with(self, name: &str, value: &'v Value) -> Option<PartValues<'v>>
         ensures known { is_some result ≡ is_known component_members name.now }
         ensures more { IfSome result (λ more. rows_seen more

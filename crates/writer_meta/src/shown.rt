@@ -1,5 +1,5 @@
 ghost use Rattle.std.specs.Prelude.{◌≡◌, Some};
-ghost use Rattle.writer_meta.specs.Messages.{printable, shown_text};
+ghost use Rattle.writer_meta.specs.Refusal.{printable, shown_text};
 
 use std::fmt;
 

@@ -101,7 +101,7 @@ pub(crate) fn name_of(value: &Value) -> Option<&[u8]>
     }
 }
 
-#[tactic(auto, using(crate::proofs::Numbers::no_level_past))]
+#[tactic(auto, using(crate::proofs::Lists::no_level_past))]
 pub(crate) fn level_of(value: &Value) -> Option<Level>
     ensures { result ≡ level_value (view value.now) }
 {
@@ -112,7 +112,7 @@ pub(crate) fn level_of(value: &Value) -> Option<Level>
     Level::of_number(number as u32)
 }
 
-#[tactic(auto, using(crate::proofs::Numbers::no_usage_past))]
+#[tactic(auto, using(crate::proofs::Lists::no_usage_past))]
 pub(crate) fn usage_of(value: &Value) -> Option<Usage>
     ensures { result ≡ usage_value (view value.now) }
 {
@@ -123,7 +123,7 @@ pub(crate) fn usage_of(value: &Value) -> Option<Usage>
     Usage::of_number(number as u32)
 }
 
-#[tactic(auto, using(crate::proofs::Numbers::no_source_kind_past))]
+#[tactic(auto, using(crate::proofs::Lists::no_source_kind_past))]
 pub(crate) fn source_of(value: &Value) -> Option<SourceKind>
     ensures { result ≡ source_value (view value.now) }
 {
@@ -145,7 +145,7 @@ pub(crate) fn freeze_timeout_of(value: &Value) -> Option<u32>
     }
 }
 
-#[tactic(auto, using(crate::proofs::Numbers::no_component_type_past))]
+#[tactic(auto, using(crate::proofs::Lists::no_component_type_past))]
 pub(crate) fn kind_of(value: &Value) -> Option<ComponentType>
     ensures { result ≡ kind_value (view value.now) }
 {

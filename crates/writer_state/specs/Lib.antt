@@ -1,2 +1,1 @@
-pub mod WriterRow
 pub mod WriterState

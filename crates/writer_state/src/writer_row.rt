@@ -1,5 +1,5 @@
 ghost use Rattle.std.specs.Prelude.{◌≡◌};
-ghost use Rattle.writer_state.specs.WriterRow.{first_row, row_aborted, row_after, row_ended, row_gathered};
+ghost use Rattle.writer_state.specs.WriterState.{first_row, row_aborted, row_after, row_ended, row_gathered};
 
 use crate::said::Said;
 use crate::states::{aborted, after, is_failed};

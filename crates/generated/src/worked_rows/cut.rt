@@ -1,9 +1,10 @@
 //! The cut of a set, and what becomes of a set that fails.
+#![tactic(auto, unfolding(crate::proofs::Computing::computing))]
 
 ghost use Rattle.std.specs.Prelude.{◌≡◌, true, false, take};
 ghost use Rattle.write_history.specs.declared.actor.Actor.TheVariants.{Lane};
 ghost use Rattle.vss_model.specs.Trail.{is_legal, is_complete, may_move, run};
-ghost use Rattle.vss_report.specs.ToldReport.{told_report};
+ghost use Rattle.vss_report.specs.ToldLines.{told_report};
 ghost use Rattle.generated.specs.OneCut as one_cut;
 ghost use Rattle.generated.specs.AbortBetweenCommits as abort_between_commits;
 ghost use Rattle.generated.specs.OwnImageGoes as own_image_goes;

@@ -1,7 +1,7 @@
 //! Histories of one volume: what each block reads, what each image shows, and how many slots the images use.
 
 ghost use Rattle.std.specs.Prelude.{◌≡◌, [], ◌∷◌, Some, None};
-ghost use Rattle.block_data.specs.Runs.{zeros};
+ghost use Rattle.block_data.specs.BlockBytes.{zeros};
 ghost use Rattle.write_history.specs.History.{point_in, sets_of};
 ghost use Rattle.generated.specs.Making.{filled};
 ghost use Rattle.generated.specs.Histories.{reads, shows, uses};

@@ -1,9 +1,10 @@
 //! Images: what they show, and which of them go.
+#![tactic(auto, unfolding(crate::proofs::Computing::computing))]
 
 ghost use Rattle.std.specs.Prelude.{◌≡◌, true};
 ghost use Rattle.scenario.specs.Grammar.{reading_of, IsScenario};
 ghost use Rattle.vss_model.specs.Trail.{is_legal, is_complete};
-ghost use Rattle.vss_report.specs.ToldReport.{told_report};
+ghost use Rattle.vss_report.specs.ToldLines.{told_report};
 ghost use Rattle.generated.specs.PlainPath as plain_path;
 ghost use Rattle.generated.specs.NoSlots as no_slots;
 ghost use Rattle.generated.specs.RepeatedWrite as repeated_write;

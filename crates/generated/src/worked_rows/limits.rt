@@ -1,10 +1,11 @@
 //! Limits: of time, of the volumes in a set, of the images of a volume.
+#![tactic(auto, unfolding(crate::proofs::Computing::computing))]
 
 ghost use Rattle.std.specs.Prelude.{◌≡◌, true, codes, Some, None};
 ghost use Rattle.vss_names.specs.declared.vss_result.VssResult.TheVariants.{MaximumNumberOfSnapshotsReached};
 ghost use Rattle.vss_model.specs.Sessions.{add_refusal};
 ghost use Rattle.vss_model.specs.Trail.{is_legal, is_complete};
-ghost use Rattle.vss_report.specs.ToldReport.{told_report};
+ghost use Rattle.vss_report.specs.ToldLines.{told_report};
 ghost use Rattle.generated.specs.HeldToTheLimit as held_to_the_limit;
 ghost use Rattle.generated.specs.HeldPastTheLimit as held_past_the_limit;
 ghost use Rattle.generated.specs.Making.{line};

@@ -1,9 +1,10 @@
 //! Sessions with writers.
+#![tactic(auto, unfolding(crate::proofs::Computing::computing))]
 
 ghost use Rattle.std.specs.Prelude.{◌≡◌, true, false, take};
 ghost use Rattle.write_history.specs.declared.actor.Actor.TheVariants.{Lane};
 ghost use Rattle.vss_model.specs.Trail.{is_legal, is_complete, may_move, run};
-ghost use Rattle.vss_report.specs.ToldReport.{told_report};
+ghost use Rattle.vss_report.specs.ToldLines.{told_report};
 ghost use Rattle.generated.specs.FreezeLevels as freeze_levels;
 ghost use Rattle.generated.specs.Veto as veto;
 ghost use Rattle.generated.specs.LostAnswer as lost_answer;

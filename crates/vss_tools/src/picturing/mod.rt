@@ -16,13 +16,13 @@ mod texts;
 use crate::explaining::byte_hint::say_line;
 use crate::explaining::notes::Notes;
 use crate::reading::moves_in;
+use crate::timeline::{Ended, Fault, Refusal, Run, Span, draw};
 use crate::words_given;
 use io_edge::OutSink;
 use overview::overview_of;
 use request::Request;
 use status::Status;
 use texts::Texts;
-use timeline::{Ended, Fault, Refusal, Run, Span, draw};
 
 /// Of an empty report.
 const NO_LINE: Refusal = Refusal {

@@ -3,8 +3,8 @@
 use crate::explaining::notes::Notes;
 use crate::explaining::piece::Piece::{Number, Words};
 use crate::reading::is_move;
+use crate::timeline::Span;
 use std::alloc::Global;
-use timeline::Span;
 use vss_names::OutOfMemory;
 
 /// How many columns there are at most, how wide one is, and where the first begins, in pixels.

@@ -1,7 +1,7 @@
 use crate::reading::Unread;
+use crate::timeline::Fault;
 use scenario::Reason;
 use std::fmt;
-use timeline::Fault;
 
 /// What is wrong with a text that was given.
 #[derive(Clone, Copy)]

@@ -2,7 +2,7 @@ use crate::explaining::near::say_nearest;
 use crate::explaining::notes::Notes;
 use crate::explaining::piece::Piece::Shown;
 use crate::explaining::word_hint::{file_at, number_of, word_at};
-use timeline::{Axis, Form, Span};
+use crate::timeline::{Axis, Form, Span};
 
 const OPTIONS: [&[u8]; 5] = [b"--text", b"--clock", b"--overview", b"--from", b"--to"];
 

@@ -1,7 +1,7 @@
 use super::bad::Bad;
 use crate::reading::WRITE_FAULT;
+use crate::timeline::Span;
 use std::fmt;
-use timeline::Span;
 
 /// How the program ended.
 #[derive(Clone, Copy)]

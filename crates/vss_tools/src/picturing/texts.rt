@@ -8,9 +8,9 @@ use crate::explaining::line_hint::say_refusal;
 use crate::explaining::notes::Notes;
 use crate::reading;
 use crate::reading::Unread;
+use crate::timeline::Refusal;
 use io_edge::{InSource, ReadError, read_all};
 use scenario::refusal_of;
-use timeline::Refusal;
 
 /// The most bytes of a report, and of a scenario.
 const MOST_REPORT: usize = 1_073_741_824;

@@ -1,5 +1,5 @@
 use Rattle.std.proofs.Common.{◌≡◌, ◌*◌, ◌<◌, ◌≤◌, ◌-◌, take}
-use Rattle.block_data.specs.Runs.{repeated}
+use Rattle.block_data.specs.BlockBytes.{repeated}
 use Rattle.block_data.proofs.payload.repeat.Given as goal
 
 abbrev pub invariant-loop-done : goal.invariant-loop-done

@@ -1,5 +1,5 @@
 use Rattle.std.proofs.Common.{◌∙◌, sym}
-use Rattle.component_doc.proofs.Behind.{not_below, below_all, below_at}
+use Rattle.component_doc.proofs.Named.{not_below, below_all, below_at}
 use Rattle.component_doc.proofs.ancestors.is_ancestor.Goals as goal
 
 pub returns-in_default : goal.returns-in_default

@@ -3,7 +3,7 @@ use Rattle.std.proofs.lemmas.Bool.{true≢false}
 use Rattle.std.proofs.lemmas.Bool.Decides.{Decides-eqb}
 use Rattle.std.proofs.lemmas.Slice.Eq.{strip_prefix_is}
 use Rattle.writer_meta.specs.Metadata.{backslash}
-use Rattle.component_doc.proofs.Behind.{not_behind, behind_both, joined_is}
+use Rattle.component_doc.proofs.Named.{not_behind, behind_both, joined_is}
 use Rattle.component_doc.proofs.ancestors.rest_of.Goals as goal
 
 pub returns-then-is_empty : goal.returns-then-is_empty

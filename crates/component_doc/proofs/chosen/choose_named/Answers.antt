@@ -1,6 +1,6 @@
 use Rattle.std.proofs.Common.{arith, map}
 use Rattle.writer_meta.specs.Metadata.{part_of}
-use Rattle.component_doc.proofs.Same.{same-choices}
+use Rattle.component_doc.proofs.Order.{same-choices}
 use Rattle.component_doc.proofs.chosen.choose_named.Goals as goal
 
 pub returns : goal.returns

@@ -1,5 +1,5 @@
 use Rattle.std.proofs.Common.{◌∙◌, ap, arith, option_map}
-use Rattle.component_doc.specs.Held.{metas_of, pairs_of}
+use Rattle.component_doc.specs.Over.{metas_of, pairs_of}
 use Rattle.component_doc.specs.Selection.{Named}
 use Rattle.component_doc.proofs.Named.{Lacks-handed_on, Lacks-named, named-more, named-all, named-selected}
 use Rattle.component_doc.proofs.reading.named_of.Goals as goal

@@ -1,7 +1,6 @@
 use Rattle.std.proofs.Common.{◌≡◌, [], drop, true}
 use Rattle.serde_json.specs.View.{items_view}
-use Rattle.component_doc.specs.Held.{metas_of, pairs_of, is_named}
-use Rattle.component_doc.specs.Over.{IsOver}
+use Rattle.component_doc.specs.Over.{metas_of, pairs_of, is_named, IsOver}
 use Rattle.component_doc.specs.Reading.{named_by_all}
 use Rattle.component_doc.proofs.reading.named_of.Given as goal
 

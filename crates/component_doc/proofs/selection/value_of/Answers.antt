@@ -1,4 +1,4 @@
-use Rattle.writer_meta.proofs.Refusals.{no_value, has_value}
+use Rattle.writer_meta.proofs.Lists.{no_value, has_value}
 use Rattle.component_doc.proofs.selection.value_of.Goals as goal
 
 pub returns-in-Ok-clause-ok : goal.returns-in-Ok-clause-ok

@@ -1,5 +1,5 @@
 use Rattle.std.proofs.Common.{IsUtf8, subst, sym}
-use Rattle.component_doc.proofs.Allowed.{IsUtf8-full_name}
+use Rattle.component_doc.proofs.Known.{IsUtf8-full_name}
 use Rattle.writer_meta.specs.Metadata.{part_of}
 use Rattle.component_doc.proofs.written.component_value.Goals as goal
 

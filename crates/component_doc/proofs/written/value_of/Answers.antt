@@ -1,10 +1,8 @@
 use Rattle.std.proofs.Common.{◌≡◌, ◌∙◌, ap, arith, Some, slice_get}
 use Rattle.std.proofs.lemmas.Option.{slice_get_read}
 use Rattle.writer_meta.specs.Metadata.{meta_of}
-use Rattle.component_doc.specs.Held.{metas_of}
-use Rattle.component_doc.proofs.Allowed.{part-at}
-use Rattle.component_doc.proofs.Known.{allowed-known, known-is}
-use Rattle.component_doc.proofs.Values.{choice-found}
+use Rattle.component_doc.specs.Over.{metas_of}
+use Rattle.component_doc.proofs.Known.{part-at, allowed-known, known-is, choice-found}
 use Rattle.component_doc.proofs.written.value_of.Goals as goal
 
 pub component_value-requires : goal.component_value-requires

@@ -1,8 +1,8 @@
 use Rattle.std.proofs.Common.{◌≡◌, ◌∙◌, ◌++◌, [], ◌∷◌, option_map, ap, sym, arith, Vec, Global}
 use Rattle.serde_json.specs.View.{view}
 use Rattle.serde_json.specs.declared.value.Value.{Value}
-use Rattle.component_doc.specs.Held.{metas_of}
-use Rattle.component_doc.proofs.Values.{value-more, value-none, value-all}
+use Rattle.component_doc.specs.Over.{metas_of}
+use Rattle.component_doc.proofs.Known.{value-more, value-none, value-all}
 use Rattle.component_doc.proofs.written.values_of.Goals as goal
 use Rattle.component_doc.proofs.written.values_of.Goals.{in-Some+in_ok-push, in_default}
 

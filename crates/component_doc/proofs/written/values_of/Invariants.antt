@@ -1,7 +1,7 @@
 use Rattle.std.proofs.Common.{◌≡◌, drop}
-use Rattle.component_doc.specs.Held.{metas_of}
+use Rattle.component_doc.specs.Over.{metas_of}
 use Rattle.component_doc.specs.Document.{choices_data}
-use Rattle.writer_meta.proofs.Written.{with_items}
+use Rattle.writer_meta.proofs.Laws.{with_items}
 use Rattle.component_doc.proofs.written.values_of.Given as goal
 
 -- the values so far, and then those of the choices that are left

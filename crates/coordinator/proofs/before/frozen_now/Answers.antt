@@ -1,5 +1,5 @@
 use Rattle.std.proofs.Common.{◌∙◌}
-use Rattle.coordinator.proofs.Telling.{frozen-none, frozen-some}
+use Rattle.coordinator.proofs.Fitting.{frozen-none, frozen-some}
 use Rattle.coordinator.proofs.before.frozen_now.Goals as goal
 
 pub returns-in-None : goal.returns-in-None

@@ -3,7 +3,7 @@ use Rattle.std.specs.Prelude.{◌&&◌, nat_lt}
 use Rattle.set_agenda.specs.WriterSet.{writers}
 use Rattle.component_doc.specs.Selection.{takers}
 use Rattle.coordinator.specs.Beginning.{asks}
-use Rattle.coordinator.proofs.Asking.{below-next, below-none}
+use Rattle.coordinator.proofs.Begun.{below-next, below-none}
 use Rattle.coordinator.proofs.beginning.asked.Goals as goal
 
 pub loop-number-init : goal.loop-number-init

@@ -1,4 +1,4 @@
-use Rattle.coordinator.proofs.Asking.{inserted}
+use Rattle.coordinator.proofs.Begun.{inserted}
 use Rattle.coordinator.proofs.beginning.insert_if.Goals as goal
 
 pub returns-then-really : goal.returns-then-really

@@ -2,9 +2,9 @@ use Rattle.std.proofs.Common.{arith, rules, ap, refl, sym, subst, map, ◌≡◌
 use Rattle.std.specs.Prelude.{All}
 use Rattle.set_agenda.specs.declared.member.Member.{Member}
 use Rattle.set_agenda.specs.Agenda.{is_among}
-use Rattle.set_agenda.specs.Begin.{are_distinct, by_writer}
+use Rattle.set_agenda.specs.Advance.{are_distinct, by_writer}
 use Rattle.set_agenda.specs.Course.{member_if, members_from}
-use Rattle.coordinator.proofs.Asking.{members-distinct, members-end, members-next, members-ordered, members-small}
+use Rattle.coordinator.proofs.Begun.{members-distinct, members-end, members-next, members-ordered, members-small}
 use Rattle.coordinator.proofs.beginning.members_of.Goals as goal
 
 pub loop-number-preserved : goal.loop-number-preserved

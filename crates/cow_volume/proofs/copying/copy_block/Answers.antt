@@ -1,6 +1,6 @@
 use Rattle.std.proofs.Common.{◌≡◌, ◌∙◌, ℕ, List, Some, ap, sym, subst, refl, length, slice_get}
 use Rattle.std.specs.Prelude.{IfSome}
-use Rattle.cow_volume.proofs.GroupSteps.{on_itself, area_itself, slot_copied, whole_written}
+use Rattle.cow_volume.proofs.DeviceCalls.{on_itself, area_itself, slot_copied, whole_written}
 use Rattle.cow_volume.proofs.copying.copy_block.Goals as goal
 
 pub returns-in-Some : goal.returns-in-Some

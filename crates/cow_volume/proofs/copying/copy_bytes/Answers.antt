@@ -1,6 +1,6 @@
 use Rattle.std.proofs.Common.{ℕ, List, ◌∙◌, ap, refl}
 use Rattle.cow_volume.specs.Steps.{put}
-use Rattle.diff_area.specs.Places.{place_of_slot}
+use Rattle.diff_area.specs.Format.{place_of_slot}
 use Rattle.std.proofs.Common.{length}
 use Rattle.cow_volume.proofs.copying.copy_bytes.Goals as goal
 

@@ -1,4 +1,4 @@
-use Rattle.cow_volume.proofs.KeptParts.{synced_kept}
+use Rattle.cow_volume.proofs.Stored.{synced_kept}
 use Rattle.cow_volume.proofs.laws.what_is_synced_is_kept.Goals as goal
 
 pub returns : goal.returns

@@ -1,6 +1,6 @@
 use Rattle.std.proofs.Common.{List, ℕ, sym, subst, get_or, All}
 use Rattle.std.proofs.lemmas.Option.{slice_get-get_or}
-use Rattle.diff_map.specs.MapValue.{AreImages}
+use Rattle.diff_map.specs.Copies.{AreImages}
 use Rattle.cow_volume.proofs.laws.what_is_taken_apart_is_taken_up.Goals as goal
 
 pub resume-requires-clause-rise : goal.resume-requires-clause-rise

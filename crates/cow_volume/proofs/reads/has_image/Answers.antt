@@ -1,6 +1,6 @@
 use Rattle.std.proofs.Common.{◌<◌, ◌∙◌, length, ap, sym, arith}
 use Rattle.cow_volume.specs.Calls.{sets_in, is_among}
-use Rattle.cow_volume.proofs.DroppingNewer.{among_none, among_here}
+use Rattle.cow_volume.proofs.GroupReverts.{among_none, among_here}
 use Rattle.cow_volume.proofs.reads.has_image.Goals as goal
 
 pub returns-then-at-sets-clause-among : goal.returns-then-at-sets-clause-among

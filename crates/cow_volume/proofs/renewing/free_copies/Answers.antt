@@ -1,10 +1,9 @@
 use Rattle.std.proofs.Common.{◌≡◌, true, ◌+◌, ◌<◌, ◌∙◌, List, None, refl, ap, sym, subst, arith, length, get_or}
-use Rattle.diff_map.specs.Leaving.{takes}
-use Rattle.diff_map.specs.MapValue.{MapValue}
+use Rattle.diff_map.specs.Rules.{takes}
+use Rattle.diff_map.specs.Copies.{MapValue}
 use Rattle.diff_map.proofs.Renewing.{FreesMapUpTo-none, FreesMapUpTo-popped, FreesMapUpTo-done, FreesMapUpTo-past, FreesMapUpTo-untaken, FreesMapUpTo-unused, going_was, freed_map}
 use Rattle.diff_map.specs.Groups.{map_at}
-use Rattle.cow_volume.proofs.GroupMaps.{only-none, only-more}
-use Rattle.cow_volume.proofs.Following.{FreesCopies, Follows-first, Follows-set, slot_inside}
+use Rattle.cow_volume.proofs.Following.{only-none, only-more, FreesCopies, Follows-first, Follows-set, slot_inside}
 use Rattle.cow_volume.proofs.renewing.free_copies.Goals as goal
 use Rattle.cow_volume.proofs.renewing.free_copies.Goals.{then-takes+in_default, else-takes}
 

@@ -1,11 +1,11 @@
 use Rattle.std.proofs.Common.{ℕ, ◌<◌, ◌-◌, ◌∙◌, List, Some, get_or, refl, ap, sym, subst}
 use Rattle.std.proofs.lemmas.Option.{slice_get_within, get_or_from_slice_get}
 use Rattle.diff_map.specs.Groups.{IsOnlyAt, map_at}
-use Rattle.diff_map.specs.MapValue.{MapValue}
+use Rattle.diff_map.specs.Copies.{MapValue}
 use Rattle.diff_map.specs.Rules.{merged}
 use Rattle.diff_map.proofs.Renewing.{IsRenewingMap-none, renewed_map, merged_all}
 use Rattle.cow_volume.proofs.Following.{Follows-first, older_above, handed_inside, handed_block, handed_once, handed_frees, handed_moves, handed_fewer}
-use Rattle.cow_volume.proofs.GroupMaps.{only-none}
+use Rattle.cow_volume.proofs.Following.{only-none}
 use Rattle.cow_volume.proofs.renewing.hand_down.Goals as goal
 
 pub copies-init : goal.copies-init

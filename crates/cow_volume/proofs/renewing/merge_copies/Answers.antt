@@ -1,9 +1,8 @@
 use Rattle.std.proofs.Common.{ℕ, ◌≡◌, ◌-◌, ◌∙◌, Option, Some, None, get_or, ap, sym, arith}
 use Rattle.diff_map.specs.Groups.{map_at, with_copies}
 use Rattle.diff_map.specs.Rules.{renewed, merged, next_older}
-use Rattle.diff_map.proofs.ImagePlaces.{place_is}
-use Rattle.diff_map.proofs.Images.{none_before_oldest}
-use Rattle.cow_volume.proofs.GroupMaps.{next_older_at}
+use Rattle.diff_map.proofs.Images.{place_is, none_before_oldest}
+use Rattle.cow_volume.proofs.Following.{next_older_at}
 use Rattle.cow_volume.proofs.renewing.merge_copies.Goals as goal
 
 pub returns-then-at-eq0-clause-map : goal.returns-then-at-eq0-clause-map

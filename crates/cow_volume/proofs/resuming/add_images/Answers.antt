@@ -2,7 +2,7 @@ use Rattle.std.proofs.Common.{◌∙◌, List, ℕ, ap}
 use Rattle.std.specs.Prelude.{slice_set}
 use Rattle.std.proofs.lemmas.List.{take_all}
 use Rattle.diff_map.specs.Groups.{map_at, with_images}
-use Rattle.cow_volume.proofs.GroupMaps.{only-none, adding_inside, adding_room, adding_newest, adding_more}
+use Rattle.cow_volume.proofs.Following.{only-none, adding_inside, adding_room, adding_newest, adding_more}
 use Rattle.cow_volume.proofs.resuming.add_images.Goals as goal
 
 pub loop-set-init : goal.loop-set-init

@@ -1,6 +1,6 @@
 use Rattle.std.proofs.Common.{◌∙◌, sym, arith}
-use Rattle.diff_area.specs.Records.{is_free}
-use Rattle.cow_volume.specs.TakingUp.{used}
+use Rattle.diff_area.specs.Format.{is_free}
+use Rattle.cow_volume.specs.Resuming.{used}
 use Rattle.cow_volume.proofs.TakingUp.{slot_given, slot_kept, pool_all, is_taken}
 use Rattle.cow_volume.proofs.resuming.give_free_slots.Goals as goal
 use Rattle.cow_volume.proofs.resuming.give_free_slots.Goals.{then-is_free, else-is_free}

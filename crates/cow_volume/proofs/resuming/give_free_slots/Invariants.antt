@@ -1,6 +1,6 @@
 use Rattle.std.proofs.Common.{◌≡◌}
-use Rattle.diff_area.specs.Records.{is_free}
-use Rattle.cow_volume.specs.TakingUp.{mixed, used}
+use Rattle.diff_area.specs.Format.{is_free}
+use Rattle.cow_volume.specs.Resuming.{mixed, used}
 use Rattle.cow_volume.proofs.resuming.give_free_slots.Given as goal
 
 -- the slots so far are as their records say

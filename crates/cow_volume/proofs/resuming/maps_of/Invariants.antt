@@ -1,5 +1,5 @@
 use Rattle.std.proofs.Common.{length}
-use Rattle.cow_volume.specs.TakingUp.{AreTakenUp, so_far}
+use Rattle.cow_volume.specs.Resuming.{AreTakenUp, so_far}
 use Rattle.cow_volume.proofs.resuming.maps_of.Given as goal
 
 -- the volumes so far have their images

@@ -1,8 +1,8 @@
 use Rattle.std.proofs.Common.{◌≡◌, ◌∙◌, false, length, sym, arith}
 use Rattle.std.proofs.lemmas.Option.{slice_get_within}
-use Rattle.diff_area.specs.Records.{is_free}
+use Rattle.diff_area.specs.Format.{is_free}
 use Rattle.diff_map.specs.Groups.{map_at}
-use Rattle.cow_volume.proofs.GroupMaps.{get_map}
+use Rattle.cow_volume.proofs.Following.{get_map}
 use Rattle.cow_volume.proofs.Counting.{used_record}
 use Rattle.cow_volume.proofs.TakingUp.{maps_same, maps_noted, all_unnoted, map_lacks, map_has_image, map_in_range, all_more}
 use Rattle.cow_volume.proofs.resuming.note_copies.Goals as goal

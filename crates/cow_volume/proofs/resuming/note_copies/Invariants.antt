@@ -1,7 +1,6 @@
 use Rattle.std.proofs.Common.{ℕ, ◌≡◌, ◌<◌, length, Some, slice_get}
 use Rattle.diff_area.specs.declared.table_record.Record.{Record}
-use Rattle.cow_volume.specs.Resuming.{HasImage}
-use Rattle.cow_volume.specs.TakingUp.{AreTakenUp}
+use Rattle.cow_volume.specs.Resuming.{HasImage, AreTakenUp}
 use Rattle.cow_volume.proofs.resuming.note_copies.Given as goal
 
 -- the slots so far are noted, and their records have their images

@@ -1,5 +1,5 @@
 use Rattle.std.proofs.Common.{arith}
-use Rattle.cow_volume.specs.TakingUp.{used, unused}
+use Rattle.cow_volume.specs.Resuming.{used, unused}
 use Rattle.cow_volume.proofs.Rows.{get_inside}
 use Rattle.cow_volume.proofs.TakingUp.{slot_taken, pool_all}
 use Rattle.cow_volume.proofs.resuming.take_slots.Goals as goal

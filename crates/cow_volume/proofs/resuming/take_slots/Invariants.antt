@@ -1,5 +1,5 @@
 use Rattle.std.proofs.Common.{◌≡◌}
-use Rattle.cow_volume.specs.TakingUp.{mixed, used, unused}
+use Rattle.cow_volume.specs.Resuming.{mixed, used, unused}
 use Rattle.cow_volume.proofs.resuming.take_slots.Given as goal
 
 -- the slots so far are taken

@@ -1,5 +1,5 @@
 use Rattle.std.proofs.Common.{refl}
-use Rattle.cow_volume.proofs.DroppingNewer.{fewer_left}
+use Rattle.cow_volume.proofs.GroupReverts.{fewer_left}
 use Rattle.cow_volume.proofs.NewerMerged.{merging_more, merging_end}
 use Rattle.cow_volume.proofs.RestoringMerged.{merging_start}
 use Rattle.cow_volume.proofs.reverts.drop_newer.Goals as goal

@@ -1,10 +1,9 @@
 use Rattle.std.proofs.Common.{sym, subst}
 use Rattle.write_history.specs.History.{dropped}
 use Rattle.cow_volume.specs.StandsFor.{StandsFor}
-use Rattle.cow_volume.specs.Tied.{CopiesValue}
+use Rattle.cow_volume.specs.Parts.{CopiesValue, group_of}
 use Rattle.cow_volume.specs.Calls.{changed_at}
-use Rattle.cow_volume.specs.Parts.{group_of}
-use Rattle.cow_volume.proofs.DroppingNewer.{merged_stands}
+use Rattle.cow_volume.proofs.GroupReverts.{merged_stands}
 use Rattle.cow_volume.proofs.reverts.merge_image.Goals as goal
 
 pub returns-clause-stands : goal.returns-clause-stands

@@ -1,6 +1,6 @@
 use Rattle.std.proofs.Common.{◌≡◌, ℕ, List, true, false, refl, sym, ap, ◌∙◌, subst, arith, length, Some}
 use Rattle.std.specs.Prelude.{IfSome, is_err, slice_get}
-use Rattle.diff_area.specs.Places.{place_of_slot}
+use Rattle.diff_area.specs.Format.{place_of_slot}
 use Rattle.cow_volume.proofs.DeviceCalls.{on_ok, filled}
 use Rattle.cow_volume.proofs.RestoringSteps.{put_back, not_put_back}
 use Rattle.cow_volume.proofs.reverts.restore_block.Goals as goal

@@ -7,9 +7,8 @@ use Rattle.cow_volume.specs.Parts.{group_of}
 use Rattle.cow_volume.specs.Restoring.{merged_as}
 use Rattle.cow_volume.proofs.Kept.{sizes_kept, unfailed_itself, unfailed_further}
 use Rattle.cow_volume.proofs.DeviceCalls.{in_range_of}
-use Rattle.cow_volume.proofs.RestoringMerged.{keeps_itself, keeps_one, one_merged}
+use Rattle.cow_volume.proofs.RestoringMerged.{keeps_itself, keeps_one, one_merged, one_counted, one_stopped, fits_more, never_rose}
 use Rattle.cow_volume.proofs.RestoringSteps.{restoring_start, at_most_one, restoring_one, restoring_stops, one_unfailed}
-use Rattle.cow_volume.proofs.Uncounted.{one_counted, one_stopped, fits_more, never_rose}
 use Rattle.cow_volume.proofs.reverts.restore_blocks.Goals as goal
 
 pub restore_block-requires-clause-volume : goal.restore_block-requires-clause-volume

@@ -1,8 +1,7 @@
 use Rattle.std.proofs.Common.{◌≡◌, ◌≤◌, ℕ, Some, is_some}
 use Rattle.cow_volume.specs.Calls.{IsUnfailed, counted_by, counted_as}
-use Rattle.cow_volume.specs.Parts.{group_of}
+use Rattle.cow_volume.specs.Parts.{group_of, CopiesValue}
 use Rattle.cow_volume.specs.Restoring.{AreRestored, IsMergedTo, KeepsCopies, merged_as}
-use Rattle.cow_volume.specs.Tied.{CopiesValue}
 use Rattle.cow_volume.proofs.reverts.restore_blocks.Given as goal
 
 -- the blocks so far are restored where they have copies

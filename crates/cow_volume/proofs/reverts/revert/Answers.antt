@@ -3,9 +3,8 @@ use Rattle.cow_volume.specs.Calls.{is_among, sets_in, counted_as}
 use Rattle.cow_volume.specs.CopiesAfter.{images_on}
 use Rattle.std.specs.Prelude.{Ok, Err, slice_get, is_some}
 use Rattle.cow_volume.specs.Restoring.{merged_as}
-use Rattle.cow_volume.proofs.DroppingNewer.{contains_of}
-use Rattle.cow_volume.proofs.RestoringMerged.{gone_as, mergeable, restored_then_cleared, stopped_then_merged}
-use Rattle.cow_volume.proofs.Uncounted.{stops_merged}
+use Rattle.cow_volume.proofs.GroupReverts.{contains_of}
+use Rattle.cow_volume.proofs.RestoringMerged.{gone_as, mergeable, restored_then_cleared, stopped_then_merged, stops_merged}
 use Rattle.cow_volume.proofs.reverts.revert.Goals as goal
 
 pub clear_from-requires-clause-volume : goal.clear_from-requires-clause-volume

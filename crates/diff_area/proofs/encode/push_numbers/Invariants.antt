@@ -1,6 +1,6 @@
 use Rattle.std.proofs.Common.{◌≡◌, ◌≤◌, ◌+◌, ◌*◌, ◌++◌, take, vec_len, vec_capacity}
 use Rattle.std.specs.List.{flat_map}
-use Rattle.diff_area.specs.Written.{number_bytes}
+use Rattle.diff_area.specs.AreaValue.{number_bytes}
 use Rattle.diff_area.proofs.encode.push_numbers.Given as goal
 
 abbrev pub invariant-loop-number : goal.invariant-loop-number

@@ -1,6 +1,6 @@
 use Rattle.std.proofs.Common.{◌≡◌, ◌≤◌, ◌+◌, ◌*◌, ◌++◌, take, vec_len, vec_capacity}
 use Rattle.std.specs.List.{flat_map}
-use Rattle.diff_area.specs.Written.{record_bytes}
+use Rattle.diff_area.specs.AreaValue.{record_bytes}
 use Rattle.diff_area.proofs.encode.push_records.Given as goal
 
 abbrev pub invariant-loop-row : goal.invariant-loop-row

@@ -1,6 +1,6 @@
 use Rattle.std.proofs.Common.{◌*◌, drop}
 use Rattle.std.proofs.lemmas.List.{take_min, take_rest}
-use Rattle.diff_area.specs.Written.{records_of_page}
+use Rattle.diff_area.specs.AreaValue.{records_of_page}
 use Rattle.diff_area.proofs.encode.records_of_page.Goals as goal
 
 pub returns-clause-rows : goal.returns-clause-rows

@@ -1,13 +1,11 @@
 use Rattle.std.proofs.Common.{ℕ, ◌≡◌, ◌*◌, List, Option, length, vec_len, min, subst, sym, ap, ◌∙◌, arith, rules}
 use Rattle.block_data.specs.declared.block_buf.TheConstants.{BLOCK}
-use Rattle.diff_area.specs.ReadBlocks.{AreRead}
-use Rattle.diff_area.specs.Records.{AreVolumes}
-use Rattle.diff_area.specs.ReadHeader.{IsAccepted}
+use Rattle.diff_area.specs.Loading.{AreRead}
+use Rattle.diff_area.specs.Format.{AreVolumes}
+use Rattle.diff_area.specs.ReadRows.{IsAccepted, IsTable, IsTableRefused}
 use Rattle.diff_area.specs.Refusals.{IsBadHeader}
-use Rattle.diff_area.specs.ReadRows.{IsTable, IsTableRefused}
-use Rattle.diff_area.proofs.FromDevice.{refused_header, refused_table, accepted, loaded}
-use Rattle.diff_area.proofs.GoodRecords.{length-rows_in}
-use Rattle.diff_area.proofs.Valid.{are_volumes, are_records}
+use Rattle.diff_area.proofs.OnDevice.{refused_header, refused_table, accepted, loaded}
+use Rattle.diff_area.proofs.GoodRecords.{length-rows_in, are_volumes, are_records}
 use Rattle.diff_area.proofs.loading.read_tables.Goals as goal
 
 read_told : {D : Type 0} (told : D → Option (List (List ℕ))) (old new : D) (first count : ℕ) (bytes : List ℕ) → told new ≡ told old → AreRead (told new) first count bytes → AreRead (told old) first count bytes

@@ -1,6 +1,6 @@
 use Rattle.std.proofs.Common.{◌+◌, length, refl, ap, ◌∙◌, arith}
 use Rattle.std.proofs.lemmas.List.{length-append}
-use Rattle.diff_area.proofs.ReadBlocks.{read-more, read-on}
+use Rattle.diff_area.proofs.OnDevice.{read-more, read-on}
 use Rattle.diff_area.proofs.reading.read_blocks.Goals as goal
 
 pub loop-k-preserved : goal.loop-k-preserved

@@ -1,6 +1,6 @@
 use Rattle.std.proofs.Common.{◌≡◌, ◌*◌, length, vec_len}
 use Rattle.block_data.specs.declared.block_buf.TheConstants.{BLOCK}
-use Rattle.diff_area.specs.ReadBlocks.{IsReadAlone, AreRead}
+use Rattle.diff_area.specs.Loading.{IsReadAlone, AreRead}
 use Rattle.diff_area.proofs.reading.read_blocks.Given as goal
 
 abbrev pub invariant-loop-k : goal.invariant-loop-k

@@ -1,6 +1,5 @@
 use Rattle.std.proofs.Common.{length, ap, arith}
-use Rattle.diff_area.proofs.Doubles.{seen-none}
-use Rattle.diff_area.proofs.GoodRecords.{good-none, good-more, bad_row, length-rows_in}
+use Rattle.diff_area.proofs.GoodRecords.{seen-none, good-none, good-more, bad_row, length-rows_in}
 use Rattle.diff_area.proofs.rows.check_rows.Goals as goal
 
 pub loop-slot-init : goal.loop-slot-init

@@ -1,5 +1,4 @@
-use Rattle.diff_area.specs.ReadRows.{AreGood}
-use Rattle.diff_area.specs.Seen.{IsSeen}
+use Rattle.diff_area.specs.ReadRows.{AreGood, IsSeen}
 use Rattle.diff_area.proofs.rows.check_rows.Given as goal
 
 abbrev pub invariant-loop-slot : goal.invariant-loop-slot

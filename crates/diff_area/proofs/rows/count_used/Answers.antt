@@ -1,5 +1,5 @@
 use Rattle.std.proofs.Common.{refl, sym, ap, ◌∙◌}
-use Rattle.diff_area.specs.Records.{used_in}
+use Rattle.diff_area.specs.Format.{used_in}
 use Rattle.diff_area.proofs.GoodRecords.{first_rows, first_narrow}
 use Rattle.diff_area.proofs.rows.count_used.Goals as goal
 

@@ -1,8 +1,7 @@
 use Rattle.std.proofs.Common.{◌+◌, option_map, vec_capacity, refl, ap, ◌∙◌, arith}
 use Rattle.std.proofs.lemmas.List.{take_all}
-use Rattle.diff_area.specs.AreaValue.{with_first, AreInPart}
-use Rattle.diff_area.specs.Written.{table_blocks, page_bytes, header_bytes}
-use Rattle.diff_area.proofs.TableBlocks.{told-write, told-keep, told-none, told-within, table-header, table-page, length-table, get_is, on_err}
+use Rattle.diff_area.specs.AreaValue.{with_first, AreInPart, table_blocks, page_bytes, header_bytes}
+use Rattle.diff_area.proofs.ByPlace.{told-write, told-keep, told-none, told-within, table-header, table-page, length-table, get_is, on_err}
 use Rattle.diff_area.proofs.writing.write_table.Goals as goal
 use Rattle.diff_area.proofs.writing.write_table.Goals.{then-changed-k+in_ok-write_page, else-changed-k}
 

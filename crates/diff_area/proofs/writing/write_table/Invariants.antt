@@ -1,7 +1,6 @@
 use Rattle.std.proofs.Common.{◌≡◌, ◌≤◌, ◌+◌, take, vec_capacity, option_map}
 use Rattle.block_data.specs.declared.block_buf.TheConstants.{BLOCK}
-use Rattle.diff_area.specs.AreaValue.{with_first}
-use Rattle.diff_area.specs.Written.{table_blocks}
+use Rattle.diff_area.specs.AreaValue.{with_first, table_blocks}
 use Rattle.diff_area.proofs.writing.write_table.Given as goal
 
 abbrev pub invariant-loop-k : goal.invariant-loop-k

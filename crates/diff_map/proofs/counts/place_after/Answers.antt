@@ -1,7 +1,7 @@
 use Rattle.std.proofs.Common.{leb, arith, rules}
 use Rattle.std.proofs.lemmas.List.Sorted.{IsPartitionedBy-leb, IsPartitionPoint-from_clause}
 use Rattle.std.proofs.lemmas.Bool.Decides.{nat_tests}
-use Rattle.diff_map.proofs.ImagePlaces.{images_rise}
+use Rattle.diff_map.proofs.Images.{images_rise}
 use Rattle.diff_map.proofs.counts.place_after.Goals as goal
 
 pub returns-clause-before : goal.returns-clause-before

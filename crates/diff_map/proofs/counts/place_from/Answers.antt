@@ -1,7 +1,7 @@
 use Rattle.std.proofs.Common.{ltb, arith, rules}
 use Rattle.std.proofs.lemmas.List.Sorted.{IsPartitionedBy-ltb, IsPartitionPoint-from_clause}
 use Rattle.std.proofs.lemmas.Bool.Decides.{nat_tests}
-use Rattle.diff_map.proofs.ImagePlaces.{images_rise}
+use Rattle.diff_map.proofs.Images.{images_rise}
 use Rattle.diff_map.proofs.counts.place_from.Goals as goal
 
 pub returns-clause-before : goal.returns-clause-before

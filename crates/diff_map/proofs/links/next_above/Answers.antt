@@ -1,5 +1,5 @@
 use Rattle.std.proofs.Common.{refl, arith}
-use Rattle.diff_map.proofs.Linked.{no_next, is_next}
+use Rattle.diff_map.proofs.Relinked.{no_next, is_next}
 use Rattle.diff_map.proofs.links.next_above.Goals as goal
 
 pub returns-in_default : goal.returns-in_default

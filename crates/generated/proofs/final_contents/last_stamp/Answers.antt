@@ -1,5 +1,5 @@
 use Rattle.std.proofs.Common.{◌∙◌, ◌+◌, ap}
-use Rattle.generated.proofs.LastWrites.{next_found, found_is}
+use Rattle.generated.proofs.Ranges.{next_found, found_is}
 use Rattle.generated.proofs.final_contents.last_stamp.Goals as goal
 
 pub loop-k-preserved : goal.loop-k-preserved

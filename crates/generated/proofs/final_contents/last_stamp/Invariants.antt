@@ -1,6 +1,6 @@
 use Rattle.std.proofs.Common.{◌≡◌}
 use Rattle.generated.proofs.Terms.{zeros, last_bytes, writes_to}
-use Rattle.generated.proofs.LastWrites.{left_in}
+use Rattle.generated.proofs.Ranges.{left_in}
 use Rattle.generated.proofs.final_contents.last_stamp.Given as goal
 
 -- what was found, and what is still to come

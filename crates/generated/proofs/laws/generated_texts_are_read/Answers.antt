@@ -1,5 +1,5 @@
 use Rattle.generated.proofs.WholeTexts.{text_read, all_generated}
-use Rattle.generated.proofs.Short.{text_short}
+use Rattle.generated.proofs.WriteLines.{text_short}
 use Rattle.generated.proofs.laws.generated_texts_are_read.Goals as goal
 
 pub returns-clause-read : goal.returns-clause-read

@@ -1,5 +1,5 @@
 use Rattle.std.proofs.Common.{◌∙◌, ◌++◌, ap, arith, rules}
-use Rattle.generated.specs.Summary.{volume_line, final_digest}
+use Rattle.generated.specs.Contents.{volume_line, final_digest}
 use Rattle.generated.proofs.Ranges.{next_volume, whole_summary}
 use Rattle.generated.proofs.summary_text.summary.Goals as goal
 

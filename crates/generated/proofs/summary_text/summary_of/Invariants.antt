@@ -1,5 +1,5 @@
 use Rattle.std.proofs.Common.{◌≡◌, ◌++◌, drop}
-use Rattle.generated.specs.Summary.{volume_lines}
+use Rattle.generated.specs.Contents.{volume_lines}
 use Rattle.generated.proofs.summary_text.summary_of.Given as goal
 
 -- what is written and what is still to come

@@ -1,5 +1,5 @@
 use Rattle.std.specs.Prelude.{◌≤◌}
-use Rattle.image_folder.specs.Rows.{AreFree, IsUsedBefore}
+use Rattle.image_folder.specs.Parts.{AreFree, IsUsedBefore}
 use Rattle.image_folder.proofs.freeing.used_up_to.Given as goal
 
 abbrev pub invariant-loop-slot : goal.invariant-loop-slot

@@ -1,6 +1,6 @@
 use Rattle.std.proofs.Common.{rules, ◌≡◌, ◌<◌, ◌++◌, ◌∷◌, [], length}
 use Rattle.image_folder.specs.Parts.{IsPart}
-use Rattle.image_folder.proofs.More.{next_part}
+use Rattle.image_folder.proofs.Joins.{next_part}
 use Rattle.image_folder.proofs.naming.parts_in.Goals as goal
 
 pub loop-number-preserved : goal.loop-number-preserved

@@ -2,7 +2,7 @@ use Rattle.std.proofs.Common.{◌≤◌, ◌<◌, ◌∙◌, List, ℕ, length, 
 use Rattle.std.specs.Prelude.{slice_index}
 use Rattle.std.proofs.lemmas.List.{take_all}
 use Rattle.io_edge.specs.Streams.{Took}
-use Rattle.image_store.proofs.Sets.{place_is}
+use Rattle.image_store.proofs.Opens.{place_is}
 use Rattle.image_folder.proofs.Joins.{one_more, pieces_are_file, shown_all}
 use Rattle.image_folder.proofs.showing.show_parts.Goals as goal
 

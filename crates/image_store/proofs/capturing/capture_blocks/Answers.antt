@@ -4,7 +4,7 @@ use Rattle.cow_volume.proofs.Group.{length-slice_set}
 use Rattle.cow_volume.specs.Calls.{blocks_in}
 use Rattle.image_store.specs.Plain.{volume_in}
 use Rattle.image_store.proofs.Plains.{kept_then}
-use Rattle.image_store.proofs.Spools.{captured_more, captured_to}
+use Rattle.image_store.proofs.Opens.{captured_more, captured_to}
 use Rattle.image_store.proofs.capturing.capture_blocks.Goals as goal
 
 pub loop-b-preserved : goal.loop-b-preserved

@@ -1,5 +1,5 @@
 use Rattle.std.proofs.Common.{◌≡◌, ℕ, List, Some, length}
-use Rattle.image_store.specs.Capturing.{AreCaptured, HasCaptured}
+use Rattle.image_store.specs.Updating.{AreCaptured, HasCaptured}
 use Rattle.image_store.specs.Plain.{Plain, volume_in}
 use Rattle.image_store.specs.StoreValue.{HasPlains, KeepsPlains}
 use Rattle.image_store.proofs.capturing.capture_blocks.Given as goal

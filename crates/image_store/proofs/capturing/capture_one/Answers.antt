@@ -1,7 +1,7 @@
 use Rattle.std.proofs.Common.{◌∙◌, sym, arith}
 use Rattle.image_store.specs.Plain.{volume_in}
 use Rattle.image_store.proofs.Plains.{block_now}
-use Rattle.image_store.proofs.Spools.{one_left, one_put}
+use Rattle.image_store.proofs.Opens.{one_left, one_put}
 use Rattle.image_store.proofs.capturing.capture_one.Goals as goal
 
 pub returns-then-are_same-clause-captured : goal.returns-then-are_same-clause-captured

@@ -2,7 +2,7 @@ use Rattle.std.proofs.Common.{◌∙◌, ◌<◌, length, arith}
 use Rattle.std.specs.Prelude.{slice_index}
 use Rattle.std.proofs.lemmas.Option.{slice_get_within}
 use Rattle.image_store.proofs.Calls.{cut_more}
-use Rattle.image_store.proofs.Sets.{place_is, get_is}
+use Rattle.image_store.proofs.Opens.{place_is, get_is}
 use Rattle.image_store.proofs.cutting.cut_all.Goals as goal
 
 pub loop-volume-preserved : goal.loop-volume-preserved

@@ -1,5 +1,5 @@
 use Rattle.std.proofs.Common.{arith}
-use Rattle.image_store.proofs.Sets.{sets_more, sets_all, given_more}
+use Rattle.image_store.proofs.Opens.{sets_more, sets_all, given_more}
 use Rattle.image_store.proofs.cutting.greatest_set.Goals as goal
 
 pub loop-v-preserved : goal.loop-v-preserved

@@ -1,5 +1,5 @@
 use Rattle.std.specs.Prelude.{◌≡◌, ◌≤◌, ◌+◌}
-use Rattle.image_store.specs.Aims.{marked_in}
+use Rattle.image_store.specs.Ordering.{marked_in}
 use Rattle.image_store.proofs.job.marked.Given as goal
 
 -- those before the block are counted

@@ -1,8 +1,7 @@
 use Rattle.std.proofs.Common.{List, Bool, ◌<◌, ◌≤◌, length, arith, ap, sym, subst}
 use Rattle.std.specs.Prelude.{slice_set}
 use Rattle.std.proofs.lemmas.Option.{slice_get-get_or, slice_get_within}
-use Rattle.image_store.specs.Aims.{aim_of, aims_of, AreCopiedSoFar}
-use Rattle.image_store.specs.Ordering.{Aim}
+use Rattle.image_store.specs.Ordering.{aim_of, aims_of, AreCopiedSoFar, Aim}
 use Rattle.image_store.specs.declared.job.Job.{Job}
 use Rattle.image_store.proofs.Orders.{ends_next, further_of, further_then, more_itself, more_then, over_all, so_far_next}
 use Rattle.image_store.proofs.Keeping.{still_told}

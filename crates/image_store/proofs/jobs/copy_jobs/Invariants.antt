@@ -1,7 +1,6 @@
 use Rattle.std.proofs.Common.{ℕ, ◌≡◌, ◌<◌, ◌≤◌, length, Some}
 use Rattle.std.specs.Prelude.{slice_get}
-use Rattle.image_store.specs.Aims.{aims_of, AreCopiedSoFar}
-use Rattle.image_store.specs.Ordering.{HasMore}
+use Rattle.image_store.specs.Ordering.{aims_of, AreCopiedSoFar, HasMore}
 use Rattle.image_store.specs.declared.job.Job.{Job}
 use Rattle.image_store.proofs.jobs.copy_jobs.Given as goal
 

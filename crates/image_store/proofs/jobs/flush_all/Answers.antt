@@ -1,6 +1,6 @@
 use Rattle.std.proofs.Common.{◌∙◌, ap, sym, arith, inl, inr, length}
 use Rattle.std.proofs.lemmas.Option.{slice_get_within}
-use Rattle.image_store.proofs.Sets.{at_or_below}
+use Rattle.image_store.proofs.Opens.{at_or_below}
 use Rattle.image_store.proofs.jobs.flush_all.Goals as goal
 
 pub loop-volume-preserved : goal.loop-volume-preserved

@@ -3,8 +3,7 @@ use Rattle.std.specs.Prelude.{slice_get}
 use Rattle.std.proofs.lemmas.List.{length-map}
 use Rattle.std.proofs.lemmas.Option.{slice_get-get_or}
 use Rattle.cow_volume.proofs.Group.{slice_get_map}
-use Rattle.image_store.specs.Aims.{aim_of, aims_of}
-use Rattle.image_store.specs.Ordering.{Aim}
+use Rattle.image_store.specs.Ordering.{aim_of, aims_of, Aim}
 use Rattle.image_store.proofs.Orders.{written_all, written_at, written_next, written_none}
 use Rattle.image_store.proofs.Keeping.{still_told}
 use Rattle.image_store.proofs.jobs.overwrite_jobs.Goals as goal

@@ -1,7 +1,6 @@
 use Rattle.std.proofs.Common.{◌≡◌}
-use Rattle.cow_volume.specs.GroupValue.{GroupValue}
-use Rattle.image_store.specs.Aims.{aims_of}
-use Rattle.image_store.specs.Ordering.{AreApart, IsCopied, IsHeld, IsReady, OfEach}
+use Rattle.cow_volume.specs.StandsFor.{GroupValue}
+use Rattle.image_store.specs.Ordering.{aims_of, AreApart, IsCopied, IsHeld, IsReady, OfEach}
 use Rattle.image_store.specs.Plain.{PlainStore}
 use Rattle.image_store.proofs.Orders.{AreWritten}
 use Rattle.image_store.proofs.jobs.overwrite_jobs.Given as goal

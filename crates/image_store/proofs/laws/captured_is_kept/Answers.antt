@@ -1,7 +1,7 @@
 use Rattle.std.proofs.Common.{◌∙◌, sym, arith}
 use Rattle.image_store.proofs.Passes.{as_many_wanted}
 use Rattle.image_store.proofs.Plains.{as_many_blocks}
-use Rattle.image_store.proofs.Spools.{captured_gives, captured_ready}
+use Rattle.image_store.proofs.Opens.{captured_gives, captured_ready}
 use Rattle.image_store.proofs.laws.captured_is_kept.Goals as goal
 
 pub returns : goal.returns

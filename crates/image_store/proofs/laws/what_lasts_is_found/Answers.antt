@@ -1,7 +1,7 @@
 use Rattle.std.proofs.Common.{◌<◌, arith}
 use Rattle.vss_catalog.proofs.Back.{catalog-back}
 use Rattle.image_store.specs.Head.{said_of}
-use Rattle.image_store.proofs.Found.{same_head, found}
+use Rattle.image_store.proofs.Keeping.{same_head, found}
 use Rattle.image_store.proofs.laws.what_lasts_is_found.Goals as goal
 
 pub returns : goal.returns

@@ -1,7 +1,7 @@
 use Rattle.std.proofs.Common.{◌∙◌, ◌<◌, ℕ, List, length, ap, sym, arith, Some}
 use Rattle.std.specs.Str.{bytes_eq}
 use Rattle.std.proofs.lemmas.Option.{slice_get-get_or}
-use Rattle.image_store.proofs.Names.{named_here, others_more}
+use Rattle.image_store.proofs.Heads.{named_here, others_more}
 use Rattle.image_store.proofs.naming.first_of.Goals as goal
 
 pub returns-then-eq-clause-named : goal.returns-then-eq-clause-named

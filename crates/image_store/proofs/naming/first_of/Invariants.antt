@@ -1,4 +1,4 @@
-use Rattle.image_store.specs.Naming.{AreOthers}
+use Rattle.image_store.specs.StoreValue.{AreOthers}
 use Rattle.image_store.proofs.naming.first_of.Given as goal
 
 abbrev pub invariant-loop-place : goal.invariant-loop-place

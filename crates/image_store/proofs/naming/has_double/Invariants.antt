@@ -1,7 +1,7 @@
 use Rattle.std.proofs.Common.{ℕ, ◌≡◌, ◌<◌, Some}
 use Rattle.std.specs.Prelude.{slice_get}
-use Rattle.vss_names.specs.TextValue.{TextValue}
-use Rattle.image_store.specs.Naming.{AreOthers}
+use Rattle.vss_names.specs.Names.{TextValue}
+use Rattle.image_store.specs.StoreValue.{AreOthers}
 use Rattle.image_store.proofs.naming.has_double.Given as goal
 
 abbrev pub invariant-loop-place : goal.invariant-loop-place

@@ -2,7 +2,7 @@ use Rattle.std.proofs.Common.{◌∙◌, Some, map, sym, ap, arith, inl, inr}
 use Rattle.std.proofs.lemmas.List.{length-map}
 use Rattle.std.proofs.lemmas.Option.{slice_get-get_or}
 use Rattle.vss_catalog.specs.Entries.{EntryValue}
-use Rattle.image_store.specs.Keeping.{blocks_of}
+use Rattle.image_store.specs.Head.{blocks_of}
 use Rattle.image_store.proofs.Opens.{all_same, area_there, blocks_there, device_there, not_found, same_more, same_there}
 use Rattle.image_store.proofs.opening.check_blocks.Goals as goal
 

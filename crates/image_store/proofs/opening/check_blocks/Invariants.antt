@@ -1,5 +1,5 @@
 use Rattle.std.proofs.Common.{map}
-use Rattle.image_store.specs.Keeping.{blocks_of}
+use Rattle.image_store.specs.Head.{blocks_of}
 use Rattle.image_store.specs.Opening.{AreSame}
 use Rattle.image_store.proofs.opening.check_blocks.Given as goal
 

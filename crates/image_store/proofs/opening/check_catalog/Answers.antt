@@ -1,6 +1,6 @@
 use Rattle.std.proofs.Common.{◌≤◌, ◌∙◌, ap, subst, sym, arith}
 use Rattle.std.specs.Prelude.{All}
-use Rattle.diff_map.specs.MapValue.{AreImages}
+use Rattle.diff_map.specs.Copies.{AreImages}
 use Rattle.cow_volume.specs.Calls.{is_among}
 use Rattle.cow_volume.proofs.Group.{slice_get_inside}
 use Rattle.image_store.proofs.Opens.{below_last, list_allowed, well_more}

@@ -1,5 +1,5 @@
 use Rattle.std.proofs.Common.{ap, inl, inr}
-use Rattle.image_store.specs.Aims.{aims_of}
+use Rattle.image_store.specs.Ordering.{aims_of}
 use Rattle.image_store.proofs.Orders.{before_opens, found_but, none_gone, none_stands, ok_then}
 use Rattle.image_store.proofs.ordering.keep_in_order.Goals as goal
 

@@ -1,5 +1,5 @@
 use Rattle.std.proofs.Common.{[], inl, inr}
-use Rattle.image_store.specs.Aims.{aims_of}
+use Rattle.image_store.specs.Ordering.{aims_of}
 use Rattle.image_store.proofs.Orders.{found_but, may_begin, ok_then, starts}
 use Rattle.image_store.proofs.ordering.update_in_order.Goals as goal
 

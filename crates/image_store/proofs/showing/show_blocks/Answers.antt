@@ -4,7 +4,7 @@ use Rattle.std.proofs.lemmas.Result.{err_from_is_err_and}
 use Rattle.block_data.specs.declared.block_buf.TheConstants.{BLOCK}
 use Rattle.cow_volume.specs.Calls.{blocks_at, blocks_in}
 use Rattle.image_store.specs.Showing.{shown_in}
-use Rattle.image_store.proofs.Failing.{show_after}
+use Rattle.image_store.proofs.Calls.{show_after}
 use Rattle.image_store.proofs.Plains.{kept_then}
 use Rattle.image_store.proofs.Shown.{bad_shown, read_failed, seen_in, shown_none, shown_more, shown_failed, shown_part, block_of, part_is}
 use Rattle.image_store.proofs.showing.show_blocks.Goals as goal

@@ -1,14 +1,12 @@
 use Rattle.std.proofs.Common.{◌∙◌, ℕ, List, length, map, ap, sym, subst}
 use Rattle.std.specs.Prelude.{◌==◌, ◌&&◌, IfSome}
-use Rattle.volume_device.specs.Blocks.{AreBlocks}
-use Rattle.diff_area.specs.Records.{AreRecords}
+use Rattle.volume_device.specs.InMemory.{AreBlocks}
+use Rattle.diff_area.specs.Format.{AreRecords}
 use Rattle.std.proofs.lemmas.Result.{err_from_is_err_and}
-use Rattle.vss_catalog.specs.Allowed.{IsCatalog}
-use Rattle.vss_catalog.specs.Entries.{EntryValue, lists_of}
-use Rattle.vss_catalog.specs.Names.{are_names}
-use Rattle.cow_volume.specs.GroupValue.{GroupValue}
+use Rattle.vss_catalog.specs.Entries.{IsCatalog, EntryValue, lists_of, are_names}
+use Rattle.cow_volume.specs.StandsFor.{GroupValue}
 use Rattle.cow_volume.specs.Resuming.{AllHaveImages, AreKept, IsResumeFault}
-use Rattle.image_store.specs.Keeping.{blocks_of}
+use Rattle.image_store.specs.Head.{blocks_of}
 use Rattle.image_store.proofs.Opens.{resume_fault, taken_named}
 use Rattle.image_store.proofs.store.take_up.Goals as goal
 

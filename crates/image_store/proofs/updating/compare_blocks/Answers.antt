@@ -2,7 +2,7 @@ use Rattle.std.proofs.Common.{ℕ, List, length, not, ap, arith, ◌∙◌}
 use Rattle.std.specs.Prelude.{slice_get}
 use Rattle.cow_volume.specs.Calls.{blocks_in}
 use Rattle.std.proofs.lemmas.Result.{err_from_is_err_and}
-use Rattle.image_store.proofs.Failing.{device_after, device_of, pass_failed}
+use Rattle.image_store.proofs.Calls.{device_after, device_of, pass_failed}
 use Rattle.image_store.proofs.Passes.{marked_more, marked_all, compared, as_many_wanted}
 use Rattle.image_store.proofs.Plains.{kept_then, quiet_kept}
 use Rattle.image_store.proofs.updating.compare_blocks.Goals as goal

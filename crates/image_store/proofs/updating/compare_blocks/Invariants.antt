@@ -1,4 +1,4 @@
-use Rattle.image_store.proofs.Failing.{NoneFailed}
+use Rattle.image_store.proofs.Calls.{NoneFailed}
 use Rattle.image_store.proofs.Passes.{IsMarkedTo}
 use Rattle.image_store.proofs.updating.compare_blocks.Given as goal
 

@@ -1,11 +1,11 @@
 use Rattle.std.proofs.Common.{◌∙◌, ◌+◌, ◌-◌, ◌^◌, ◌<◌, ap, min, length, true, false, refl, sym, subst, arith}
 use Rattle.std.proofs.lemmas.Option.{slice_get_within}
-use Rattle.diff_map.specs.MapValue.{AreImages}
+use Rattle.diff_map.specs.Copies.{AreImages}
 use Rattle.std.proofs.lemmas.Result.{err_from_is_err_and}
 use Rattle.image_store.proofs.Copied.{bool_is, copied_all, copied_none, copied_part_with_room, copied_past, copied_stopped, copied_with_room, copied_without, none_in}
-use Rattle.image_store.proofs.Failing.{device_after, room_unfailed}
+use Rattle.image_store.proofs.Calls.{device_after, room_unfailed}
 use Rattle.image_store.proofs.Plains.{kept_refl}
-use Rattle.image_store.proofs.Sets.{flag_is}
+use Rattle.image_store.proofs.Opens.{flag_is}
 use Rattle.image_store.proofs.Passes.{copying_stopped, copy_more}
 use Rattle.image_store.proofs.updating.copy_blocks.Goals as goal
 use Rattle.image_store.proofs.updating.copy_blocks.Goals.{then-differs-b+else-up_to-gt0+in_ok-more, else-differs-b}

@@ -1,13 +1,12 @@
 use Rattle.std.proofs.Common.{ℕ, List, ap, sym, subst, ◌∙◌}
 use Rattle.std.specs.Prelude.{slice_get}
 use Rattle.std.proofs.lemmas.Result.{err_from_is_err_and}
-use Rattle.diff_area.specs.Records.{used_in}
-use Rattle.diff_map.specs.MapValue.{AreImages}
+use Rattle.diff_area.specs.Format.{used_in}
+use Rattle.diff_map.specs.Copies.{AreImages}
 use Rattle.cow_volume.specs.Calls.{sets_in}
-use Rattle.block_data.specs.PayloadBytes.{payload_bytes}
-use Rattle.image_store.proofs.Calls.{copy_kept, put_volumes}
+use Rattle.block_data.specs.BlockBytes.{payload_bytes}
+use Rattle.image_store.proofs.Calls.{copy_kept, put_volumes, device_after, device_of}
 use Rattle.image_store.proofs.Copied.{area_kept, area_quiet, keeps_then, put_has, put_keeps, put_more}
-use Rattle.image_store.proofs.Failing.{device_after, device_of}
 use Rattle.image_store.proofs.Plains.{quiet_kept}
 use Rattle.image_store.proofs.updating.copy_one.Goals as goal
 use Rattle.cow_volume.proofs.Kept.{unfailed_further}

@@ -1,12 +1,11 @@
 use Rattle.std.proofs.Common.{◌∙◌, ◌<◌, true, false, refl, length, arith}
 use Rattle.std.proofs.lemmas.Result.{err_from_is_err_and}
-use Rattle.block_data.specs.PayloadBytes.{payload_bytes}
-use Rattle.image_store.proofs.Calls.{room_plains, not_put_kept, put_volumes}
+use Rattle.block_data.specs.BlockBytes.{payload_bytes}
+use Rattle.image_store.proofs.Calls.{room_plains, not_put_kept, put_volumes, device_after, pass_failed, room_unfailed}
 use Rattle.image_store.proofs.Copied.{area_itself, area_put, area_room}
-use Rattle.image_store.proofs.Failing.{device_after, pass_failed, room_unfailed}
 use Rattle.image_store.proofs.Passes.{written_none, written_past, written_more, written_stopped, written_part, written_all, gives_there}
 use Rattle.image_store.proofs.Plains.{kept_then}
-use Rattle.image_store.proofs.Sets.{flag_is}
+use Rattle.image_store.proofs.Opens.{flag_is}
 use Rattle.image_store.proofs.updating.overwrite_blocks.Goals as goal
 use Rattle.image_store.proofs.updating.overwrite_blocks.Goals.{then-differs-b+else-up_to-gt0+in-Ok+in_ok-put, else-differs-b}
 use Rattle.cow_volume.proofs.Kept.{unfailed_itself, unfailed_further}

@@ -2,7 +2,7 @@ use Rattle.std.proofs.Common.{◌≡◌}
 use Rattle.std.specs.Prelude.{vec_capacity}
 use Rattle.cow_volume.specs.Calls.{blocks_at}
 use Rattle.image_store.specs.Copying.{AreCopied, IsAreaSame}
-use Rattle.image_store.proofs.Failing.{NoneFailed}
+use Rattle.image_store.proofs.Calls.{NoneFailed}
 use Rattle.image_store.proofs.Passes.{IsWrittenTo}
 use Rattle.image_store.proofs.updating.overwrite_blocks.Given as goal
 

@@ -1,5 +1,5 @@
 use Rattle.std.specs.Prelude.{◌≡◌, length, take}
-use Rattle.image_store.specs.Written.{AreWritten}
+use Rattle.image_store.specs.Showing.{AreWritten}
 use Rattle.image_store.proofs.written.mark_copied.Given as goal
 
 abbrev pub invariant-loop-slot : goal.invariant-loop-slot

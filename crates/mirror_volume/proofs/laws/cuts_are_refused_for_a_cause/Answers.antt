@@ -1,4 +1,4 @@
-use Rattle.mirror_volume.proofs.Runs.{spent, refused_before}
+use Rattle.mirror_volume.proofs.HavingSaid.{spent, refused_before}
 use Rattle.mirror_volume.proofs.laws.cuts_are_refused_for_a_cause.Goals as goal
 
 pub returns-clause-spent : goal.returns-clause-spent

@@ -1,4 +1,4 @@
-use Rattle.mirror_volume.proofs.Runs.{plain_replies}
+use Rattle.mirror_volume.proofs.HavingSaid.{plain_replies}
 use Rattle.mirror_volume.proofs.laws.plain_replies_are_the_definitions.Goals as goal
 
 pub returns : goal.returns

@@ -1,4 +1,4 @@
-use Rattle.mirror_volume.proofs.Steps.{calls_in_step}
+use Rattle.mirror_volume.proofs.Counts.{calls_in_step}
 use Rattle.mirror_volume.proofs.laws.steps_bring_a_mirror_into_step.Goals as goal
 
 pub returns : goal.returns

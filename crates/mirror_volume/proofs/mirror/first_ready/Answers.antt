@@ -1,7 +1,7 @@
 use Rattle.std.proofs.Common.{◌≡◌, ◌<◌, ◌∙◌, sym, length, arith, false}
 use Rattle.std.proofs.lemmas.Option.{slice_get_within}
 use Rattle.mirror_volume.specs.Mirrors.{is_ready}
-use Rattle.mirror_volume.proofs.Following.{at_place, more_at}
+use Rattle.mirror_volume.proofs.Keeping.{at_place, more_at}
 use Rattle.mirror_volume.proofs.mirror.first_ready.Goals as goal
 
 pub returns-then-is_ready-clause-first : goal.returns-then-is_ready-clause-first

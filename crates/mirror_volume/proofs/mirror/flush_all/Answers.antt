@@ -1,6 +1,6 @@
 use Rattle.std.proofs.Common.{◌<◌, ◌∙◌, Some, ap, refl, arith, length, get_or}
 use Rattle.std.proofs.lemmas.Result.{err_from_is_err_and}
-use Rattle.mirror_volume.proofs.Following.{at_place}
+use Rattle.mirror_volume.proofs.Keeping.{at_place}
 use Rattle.mirror_volume.proofs.Flushing.{one_called, one_flushed, all_last, cause_err}
 use Rattle.mirror_volume.proofs.mirror.flush_all.Goals as goal
 

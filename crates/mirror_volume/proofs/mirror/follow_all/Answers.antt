@@ -1,5 +1,5 @@
 use Rattle.std.proofs.Common.{◌<◌, ◌≤◌, ◌∙◌, Some, ap, sym, arith, length, get_or}
-use Rattle.mirror_volume.proofs.Following.{at_place, one_more, all_followed}
+use Rattle.mirror_volume.proofs.Keeping.{at_place, one_more, all_followed}
 use Rattle.mirror_volume.proofs.mirror.follow_all.Goals as goal
 
 pub follow-requires-clause-in_range : goal.follow-requires-clause-in_range

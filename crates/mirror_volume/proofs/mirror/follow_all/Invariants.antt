@@ -1,4 +1,4 @@
-use Rattle.mirror_volume.proofs.Following.{HaveFollowed}
+use Rattle.mirror_volume.proofs.Keeping.{HaveFollowed}
 use Rattle.mirror_volume.proofs.mirror.follow_all.Given as goal
 
 -- the first mirrors followed

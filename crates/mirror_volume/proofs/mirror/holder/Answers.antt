@@ -1,5 +1,5 @@
 use Rattle.std.proofs.Common.{◌≡◌, ◌<◌, ◌∙◌, sym, length, arith, Some}
-use Rattle.mirror_volume.proofs.Following.{at_place, more_at, held_is, held_not}
+use Rattle.mirror_volume.proofs.Keeping.{at_place, more_at, held_is, held_not}
 use Rattle.mirror_volume.proofs.mirror.holder.Goals as goal
 
 pub returns-then-holds_image-clause-found : goal.returns-then-holds_image-clause-found

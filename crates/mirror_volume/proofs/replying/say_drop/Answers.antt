@@ -1,5 +1,5 @@
 use Rattle.std.proofs.Common.{subst, sym}
-use Rattle.mirror_volume.proofs.Saying.{drop_step, no_drop_step}
+use Rattle.mirror_volume.proofs.HavingSaid.{drop_step, no_drop_step}
 use Rattle.mirror_volume.proofs.replying.say_drop.Goals as goal
 
 pub returns-in-Ok-clause-step : goal.returns-in-Ok-clause-step

@@ -1,7 +1,7 @@
 use Rattle.std.proofs.Common.{◌≡◌, ◌∙◌, ap, length}
-use Rattle.block_data.specs.Digest.{sha256}
-use Rattle.cow_volume.proofs.GroupSteps.{whole_written}
-use Rattle.mirror_volume.proofs.Saying.{image_step, image_fault_step, no_image_step}
+use Rattle.block_data.specs.BlockBytes.{sha256}
+use Rattle.cow_volume.proofs.DeviceCalls.{whole_written}
+use Rattle.mirror_volume.proofs.HavingSaid.{image_step, image_fault_step, no_image_step}
 use Rattle.mirror_volume.proofs.replying.say_image.Goals as goal
 
 pub returns-in-Ok-clause-step : goal.returns-in-Ok-clause-step

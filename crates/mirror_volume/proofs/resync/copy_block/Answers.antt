@@ -1,6 +1,6 @@
 use Rattle.std.proofs.Common.{◌≡◌, ◌∙◌, ℕ, List, Some, ap, sym, subst, refl, length, slice_get}
 use Rattle.std.specs.Prelude.{IfSome}
-use Rattle.cow_volume.proofs.GroupSteps.{whole_written}
+use Rattle.cow_volume.proofs.DeviceCalls.{whole_written}
 use Rattle.mirror_volume.proofs.Keeping.{copy_or, quiet_device}
 use Rattle.mirror_volume.proofs.resync.copy_block.Goals as goal
 

@@ -1,7 +1,7 @@
 use Rattle.std.proofs.Common.{◌∙◌}
 use Rattle.vss_report.specs.Pieces.{pieces_at}
-use Rattle.vss_report.proofs.Parting.{no_piece}
-use Rattle.orders.proofs.OtherLines.{past_end}
+use Rattle.vss_report.proofs.Joined.{no_piece}
+use Rattle.orders.proofs.Replay.{past_end}
 use Rattle.orders.proofs.comparing.first_other.Goals as goal
 
 pub returns-then-at-report-clause-none : goal.returns-then-at-report-clause-none

@@ -1,6 +1,6 @@
 use Rattle.std.proofs.Common.{◌≡◌, ◌≤◌, ◌-◌, ◌+◌, length}
 use Rattle.vss_report.specs.Pieces.{pieces_at}
-use Rattle.orders.specs.Told.{first_other, other_from}
+use Rattle.orders.specs.Again.{first_other, other_from}
 use Rattle.orders.proofs.comparing.first_other.Given as goal
 
 -- the lines that were passed are the same

@@ -1,5 +1,5 @@
 use Rattle.std.proofs.Common.{◌-◌, length}
-use Rattle.vss_model.specs.GoesOn.{most_moves}
+use Rattle.vss_model.specs.Turns.{most_moves}
 use Rattle.orders.specs.Drawn.{IsDrawing}
 use Rattle.orders.proofs.drawing.play_drawn.Given as goal
 

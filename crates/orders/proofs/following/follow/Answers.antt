@@ -1,7 +1,7 @@
 use Rattle.write_history.specs.declared.actor.Actor.TheVariants.{Lane}
 use Rattle.orders.specs.declared.entry.Entry.{Entry}
 use Rattle.orders.specs.declared.why.Why.TheVariants.{Blocked, Finished}
-use Rattle.orders.proofs.Led.{led_none, led_next, led_all, halted_at}
+use Rattle.orders.proofs.Goers.{led_none, led_next, led_all, halted_at}
 use Rattle.orders.proofs.following.follow.Goals as goal
 
 pub loop-entry-init : goal.loop-entry-init

@@ -1,5 +1,5 @@
 use Rattle.std.proofs.Common.{[]}
-use Rattle.orders.proofs.OneDrawn.{one_drawn}
+use Rattle.orders.proofs.Replay.{one_drawn}
 use Rattle.orders.proofs.laws.a_number_draws_one_trail.Goals as goal
 
 pub returns : goal.returns

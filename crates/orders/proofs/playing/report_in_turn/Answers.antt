@@ -1,6 +1,6 @@
 use Rattle.std.proofs.Common.{arith}
-use Rattle.vss_play.proofs.MakerCount.{fault-of}
-use Rattle.orders.proofs.Reporting.{ended_in_turn}
+use Rattle.vss_play.proofs.FaultMarks.{fault-of}
+use Rattle.orders.proofs.Beside.{ended_in_turn}
 use Rattle.orders.proofs.playing.report_in_turn.Goals as goal
 
 pub returns-clause-ended : goal.returns-clause-ended

@@ -1,4 +1,4 @@
-use Rattle.orders.proofs.Reporting.{ordered, unplayed_so}
+use Rattle.orders.proofs.Beside.{ordered, unplayed_so}
 use Rattle.orders.proofs.playing.report_of_order.Goals as goal
 
 pub returns-in-Err-follow-clause-unplayed : goal.returns-in-Err-follow-clause-unplayed

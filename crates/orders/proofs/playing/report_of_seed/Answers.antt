@@ -1,5 +1,5 @@
-use Rattle.vss_play.proofs.MakerCount.{fault-of}
-use Rattle.orders.proofs.Reporting.{of_seed_if}
+use Rattle.vss_play.proofs.FaultMarks.{fault-of}
+use Rattle.orders.proofs.Beside.{of_seed_if}
 use Rattle.orders.proofs.playing.report_of_seed.Goals as goal
 
 pub returns-clause-ran : goal.returns-clause-ran

@@ -1,5 +1,5 @@
 use Rattle.vss_model.proofs.Headline.{reads_as_at_cut, leaves_nothing, frozen_for_set, keeps_set}
-use Rattle.vss_model.proofs.HeldWrites.{held_for_set}
+use Rattle.vss_model.proofs.Volumes.{held_for_set}
 use Rattle.promises.proofs.facts.every_run_keeps_its_promises.Goals as goal
 
 pub returns : goal.returns

@@ -1,4 +1,4 @@
-use Rattle.promises.proofs.Awaited.{await_tells}
+use Rattle.promises.proofs.LastResult.{await_tells}
 use Rattle.promises.proofs.laws.await_tells_the_last_result.Goals as goal
 
 pub returns : goal.returns

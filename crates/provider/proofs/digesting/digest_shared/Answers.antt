@@ -1,4 +1,4 @@
-use Rattle.provider.proofs.Hashed.{hashed_still}
+use Rattle.provider.proofs.Kept.{hashed_still}
 use Rattle.provider.proofs.digesting.digest_shared.Goals as goal
 
 pub loop-block-preserved : goal.loop-block-preserved

@@ -1,4 +1,4 @@
-use Rattle.provider.proofs.Hashed.{HasHashed}
+use Rattle.provider.proofs.Kept.{HasHashed}
 use Rattle.provider.proofs.digesting.digest_shared.Given as goal
 
 abbrev pub invariant-loop-block : goal.invariant-loop-block

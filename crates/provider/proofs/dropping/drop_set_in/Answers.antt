@@ -1,6 +1,6 @@
 use Rattle.std.proofs.Common.{arith}
 use Rattle.cow_volume.proofs.DeviceCalls.{device_read}
-use Rattle.provider.proofs.DroppedAll.{without_more, without_all}
+use Rattle.provider.proofs.Dropped.{without_more, without_all}
 use Rattle.provider.proofs.dropping.drop_set_in.Goals as goal
 
 pub loop-group-preserved : goal.loop-group-preserved

@@ -1,4 +1,4 @@
-use Rattle.provider.proofs.DroppedAll.{AreWithoutTo}
+use Rattle.provider.proofs.Dropped.{AreWithoutTo}
 use Rattle.provider.proofs.dropping.drop_set_in.Given as goal
 
 abbrev pub invariant-loop-group : goal.invariant-loop-group

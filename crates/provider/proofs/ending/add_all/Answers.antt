@@ -1,5 +1,5 @@
 use Rattle.std.proofs.Common.{◌<◌, length, arith, vec_capacity}
-use Rattle.provider.proofs.GivenBack.{moving_room}
+use Rattle.provider.proofs.Flat.{moving_room}
 use Rattle.provider.proofs.ending.add_all.Goals as goal
 
 pub push_reserved-requires : goal.push_reserved-requires

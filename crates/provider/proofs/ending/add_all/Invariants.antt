@@ -1,5 +1,5 @@
 use Rattle.std.proofs.Common.{vec_capacity}
-use Rattle.provider.proofs.GivenBack.{IsMoving}
+use Rattle.provider.proofs.Flat.{IsMoving}
 use Rattle.provider.proofs.ending.add_all.Given as goal
 
 abbrev pub invariant-loop-device : goal.invariant-loop-device

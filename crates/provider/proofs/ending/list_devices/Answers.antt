@@ -1,6 +1,6 @@
 use Rattle.std.proofs.Common.{◌∙◌, sym, vec_capacity}
 use Rattle.std.proofs.lemmas.List.{nil_from_length}
-use Rattle.provider.proofs.GivenBack.{groups_room, groups_all}
+use Rattle.provider.proofs.Flat.{groups_room, groups_all}
 use Rattle.provider.proofs.ending.list_devices.Goals as goal
 
 pub add_group-requires : goal.add_group-requires

@@ -1,5 +1,5 @@
 use Rattle.std.proofs.Common.{vec_capacity}
-use Rattle.provider.proofs.GivenBack.{AreMoving}
+use Rattle.provider.proofs.Flat.{AreMoving}
 use Rattle.provider.proofs.ending.list_devices.Given as goal
 
 abbrev pub invariant-loop-group : goal.invariant-loop-group

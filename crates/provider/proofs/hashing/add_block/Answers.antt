@@ -1,6 +1,6 @@
 use Rattle.std.proofs.Common.{◌≡◌, ◌∙◌, ℕ, List, ap, length, sym, subst}
 use Rattle.cow_volume.specs.Calls.{IsSeen}
-use Rattle.cow_volume.proofs.GroupSteps.{whole_written}
+use Rattle.cow_volume.proofs.DeviceCalls.{whole_written}
 use Rattle.provider.proofs.Found.{at_seen}
 use Rattle.provider.proofs.hashing.add_block.Goals as goal
 

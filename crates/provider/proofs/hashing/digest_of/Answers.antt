@@ -1,6 +1,6 @@
 use Rattle.std.proofs.Common.{◌∙◌, sym}
 use Rattle.std.proofs.lemmas.Result.{err_from_is_err_and}
-use Rattle.provider.proofs.Hashed.{hashed_more, digest_cause, quiet_then}
+use Rattle.provider.proofs.Kept.{hashed_more, digest_cause, quiet_then}
 use Rattle.provider.proofs.hashing.digest_of.Goals as goal
 
 pub loop-block-preserved : goal.loop-block-preserved

@@ -1,7 +1,7 @@
 use Rattle.std.proofs.Common.{arith}
 use Rattle.cow_volume.proofs.DeviceCalls.{device_read}
 use Rattle.std.proofs.lemmas.Option.{slice_get_within}
-use Rattle.provider.proofs.Counted.{counted_more, fit_more}
+use Rattle.provider.proofs.Flat.{counted_more, fit_more}
 use Rattle.provider.proofs.making.device_count.Goals as goal
 
 pub loop-group-preserved : goal.loop-group-preserved

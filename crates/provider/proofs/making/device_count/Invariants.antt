@@ -1,4 +1,4 @@
-use Rattle.provider.proofs.Counted.{AreCounted, FirstFit}
+use Rattle.provider.proofs.Flat.{AreCounted, FirstFit}
 use Rattle.provider.proofs.making.device_count.Given as goal
 
 abbrev pub invariant-loop-group : goal.invariant-loop-group

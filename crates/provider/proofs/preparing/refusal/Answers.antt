@@ -1,5 +1,5 @@
 use Rattle.std.proofs.Common.{◌∙◌, sym, arith}
-use Rattle.provider.proofs.Refused.{full, covered, joins}
+use Rattle.provider.proofs.Joining.{full, covered, joins}
 use Rattle.provider.proofs.preparing.refusal.Goals as goal
 
 pub returns-then-volumes-ge-MOST_VOLUMES_OF_A_SET : goal.returns-then-volumes-ge-MOST_VOLUMES_OF_A_SET

@@ -1,5 +1,5 @@
 use Rattle.std.proofs.Common.{arith}
-use Rattle.provider.proofs.Renumbered.{renumbered_next}
+use Rattle.provider.proofs.Room.{renumbered_next}
 use Rattle.provider.proofs.renumbering.renumber.Goals as goal
 
 pub loop-i-preserved : goal.loop-i-preserved

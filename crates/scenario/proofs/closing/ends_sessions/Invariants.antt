@@ -1,6 +1,6 @@
 use Rattle.std.proofs.Common.{◌≡◌, drop}
 use Rattle.scenario.specs.Bounds.{ends_sessions}
-use Rattle.scenario.proofs.Sessions.{ends_after}
+use Rattle.scenario.proofs.Whole.{ends_after}
 use Rattle.scenario.proofs.closing.ends_sessions.Given as goal
 
 abbrev pub invariant-loop-line : goal.invariant-loop-line

@@ -4,7 +4,7 @@ use Rattle.scenario.specs.declared.reason.Reason.TheVariants.{UnknownName}
 use Rattle.scenario.specs.Fields.{bytes_of}
 use Rattle.scenario.specs.Names.{place_of}
 use Rattle.scenario.specs.Drafts.{names_of}
-use Rattle.scenario.proofs.Taken.{declared_text}
+use Rattle.scenario.proofs.Growing.{declared_text}
 use Rattle.scenario.proofs.field_values.declared_field.Goals as goal
 
 pub returns-in-Some-clause-value : goal.returns-in-Some-clause-value

@@ -1,5 +1,5 @@
 use Rattle.std.proofs.Common.{◌∙◌, arith}
-use Rattle.scenario.proofs.Ranges.{words_more, words_end}
+use Rattle.scenario.proofs.TextParts.{words_more, words_end}
 use Rattle.scenario.proofs.fields.word_at.Goals as goal
 
 pub returns-then-text-at-eq32-clause-next : goal.returns-then-text-at-eq32-clause-next

@@ -1,5 +1,5 @@
 use Rattle.std.proofs.Common.{refl, arith}
-use Rattle.scenario.proofs.Changes.{answer_stored}
+use Rattle.scenario.proofs.Whole.{answer_stored}
 use Rattle.scenario.proofs.kept_rows.add_answer.Goals as goal
 
 pub returns : goal.returns

@@ -1,5 +1,5 @@
 use Rattle.std.proofs.Common.{◌-◌, refl, arith}
-use Rattle.scenario.proofs.Changes.{line_stored}
+use Rattle.scenario.proofs.Whole.{line_stored}
 use Rattle.scenario.proofs.kept_rows.add_line.Goals as goal
 
 pub returns : goal.returns

@@ -1,6 +1,6 @@
 use Rattle.std.proofs.Common.{◌∙◌, arith}
 use Rattle.std.proofs.lemmas.Grind.{common_steps}
-use Rattle.scenario.proofs.Values.{digit_more}
+use Rattle.scenario.proofs.TextParts.{digit_more}
 use Rattle.scenario.proofs.numbers.value_of.Goals as goal
 
 pub loop-byte-preserved : goal.loop-byte-preserved

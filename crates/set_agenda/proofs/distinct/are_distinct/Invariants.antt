@@ -1,5 +1,5 @@
 use Rattle.std.proofs.Common.{◌≡◌, drop}
-use Rattle.set_agenda.specs.Begin.{are_distinct}
+use Rattle.set_agenda.specs.Advance.{are_distinct}
 use Rattle.set_agenda.proofs.distinct.are_distinct.Given as goal
 
 -- none of those that were passed comes again

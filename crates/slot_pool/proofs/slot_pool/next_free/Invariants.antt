@@ -1,5 +1,5 @@
 use Rattle.std.proofs.Common.{◌-◌, length}
-use Rattle.slot_pool.specs.Runs.{AllTakenBelow, MayBeFree}
+use Rattle.slot_pool.specs.Slots.{AllTakenBelow, MayBeFree}
 use Rattle.slot_pool.proofs.slot_pool.next_free.Given as goal
 
 abbrev pub invariant-places : goal.invariant-places

@@ -1,6 +1,6 @@
 use Rattle.std.proofs.Common.{ℕ, ◌≡◌, ◌∷◌, ◌++◌, [], All, replicate, sym, subst}
 use Rattle.std.proofs.lemmas.List.Elements.{All-push}
-use Rattle.block_data.specs.Runs.{zeros}
+use Rattle.block_data.specs.BlockBytes.{zeros}
 use Rattle.volume_device.specs.InMemory.{blocks_of}
 use Rattle.trials.specs.Devices.{IsZeroed}
 use Rattle.trials.proofs.making.devices.Goals as goal

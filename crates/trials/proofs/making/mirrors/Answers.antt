@@ -1,7 +1,7 @@
 use Rattle.std.proofs.Common.{ℕ, ◌+◌, ◌≡◌, ◌∷◌, ◌++◌, [], All, List, length, replicate, ap, sym, subst, ◌∙◌}
 use Rattle.std.proofs.lemmas.List.{length-append}
 use Rattle.std.proofs.lemmas.List.Elements.{All-push}
-use Rattle.block_data.specs.Runs.{zeros}
+use Rattle.block_data.specs.BlockBytes.{zeros}
 use Rattle.volume_device.specs.InMemory.{blocks_of}
 use Rattle.volume_device.specs.declared.mem_device.MemDevice.{MemDevice}
 use Rattle.trials.specs.Devices.{IsZeroed, size_of}

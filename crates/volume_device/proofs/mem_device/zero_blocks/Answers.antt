@@ -1,6 +1,6 @@
 use Rattle.std.proofs.Common.{◌≡◌, ℕ, List, length, All, replicate, subst, sym, rules}
 use Rattle.std.proofs.lemmas.List.Elements.{All-replicate}
-use Rattle.block_data.specs.Runs.{zeros}
+use Rattle.block_data.specs.BlockBytes.{zeros}
 use Rattle.block_data.specs.declared.block_buf.TheConstants.{BLOCK}
 use Rattle.block_data.proofs.RunsOfBytes.{length_zeros}
 use Rattle.volume_device.proofs.mem_device.zero_blocks.Goals as goal

@@ -1,5 +1,5 @@
 use Rattle.std.proofs.Common.{◌≡◌, replicate}
-use Rattle.block_data.specs.Runs.{zeros}
+use Rattle.block_data.specs.BlockBytes.{zeros}
 use Rattle.volume_device.proofs.mem_device.zero_blocks.Given as goal
 
 abbrev pub invariant-loop-index : goal.invariant-loop-index

@@ -1,4 +1,4 @@
-use Rattle.vss_catalog.specs.Group.{entries_of}
+use Rattle.vss_catalog.specs.Entries.{entries_of}
 use Rattle.vss_catalog.proofs.Back.{catalog-back}
 use Rattle.vss_catalog.proofs.Groups.{catalog_allowed}
 use Rattle.vss_catalog.proofs.laws.the_catalog_of_a_group_is_read_back.Goals as goal

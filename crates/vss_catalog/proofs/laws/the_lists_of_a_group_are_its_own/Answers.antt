@@ -1,4 +1,4 @@
-use Rattle.vss_catalog.proofs.ResumedLists.{own_lists}
+use Rattle.vss_catalog.proofs.Groups.{own_lists}
 use Rattle.vss_catalog.proofs.laws.the_lists_of_a_group_are_its_own.Goals as goal
 
 pub returns : goal.returns

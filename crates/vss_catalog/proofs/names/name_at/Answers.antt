@@ -1,5 +1,5 @@
 use Rattle.std.proofs.Common.{◌≡◌, ◌∙◌, length, slice_get, ap, sym, arith}
-use Rattle.vss_catalog.specs.Names.{bytes_in}
+use Rattle.vss_catalog.specs.Entries.{bytes_in}
 use Rattle.vss_catalog.proofs.Back.{short_name}
 use Rattle.vss_catalog.proofs.names.name_at.Goals as goal
 

@@ -3,8 +3,7 @@ use Rattle.std.proofs.lemmas.List.{length-append}
 use Rattle.vss_catalog.specs.Entries.{EntryValue}
 use Rattle.vss_catalog.specs.Reading.{entry_in, entries_in}
 use Rattle.vss_catalog.specs.Written.{size_of}
-use Rattle.vss_catalog.proofs.Loops.{entries-start, entries-step, entries-fault, entries-end, entries-more}
-use Rattle.vss_catalog.proofs.Steps.{after, tells-exact, Tells-handed_on}
+use Rattle.vss_catalog.proofs.Steps.{entries-start, entries-step, entries-fault, entries-end, entries-more, after, tells-exact, Tells-handed_on}
 use Rattle.vss_catalog.proofs.reading.entries_in.Goals as goal
 
 pub loop-v-init : goal.loop-v-init

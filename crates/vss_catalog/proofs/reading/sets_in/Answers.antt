@@ -1,8 +1,7 @@
 use Rattle.std.proofs.Common.{◌≡◌, ◌+◌, ◌-◌, ◌*◌, ◌++◌, ◌∷◌, [], ◌∙◌, ℕ, List, Ok, length, drop, ap, sym, arith}
 use Rattle.std.proofs.lemmas.List.{length-append}
 use Rattle.vss_catalog.specs.Reading.{set_in, sets_in}
-use Rattle.vss_catalog.proofs.Loops.{sets-start, sets-step, sets-fault, sets-end}
-use Rattle.vss_catalog.proofs.Steps.{after, tells-exact, Tells-handed_on}
+use Rattle.vss_catalog.proofs.Steps.{sets-start, sets-step, sets-fault, sets-end, after, tells-exact, Tells-handed_on}
 use Rattle.vss_catalog.proofs.reading.sets_in.Goals as goal
 
 pub loop-k-init : goal.loop-k-init

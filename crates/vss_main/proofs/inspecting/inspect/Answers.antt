@@ -3,7 +3,7 @@ use Rattle.std.specs.Prelude.{IsErrOf, Ok}
 use Rattle.io_edge.specs.declared.reading.ReadError.TheVariants as error
 use Rattle.diff_area.specs.declared.area_fault.AreaFault.TheVariants as fault
 use Rattle.vss_main.specs.Inspected.{Edges}
-use Rattle.vss_main.proofs.Ended.{HasEnded, without}
+use Rattle.vss_main.proofs.Listed.{HasEnded, without}
 use Rattle.vss_main.proofs.inspecting.inspect.Goals as goal
 
 pub returns-in-Err : goal.returns-in-Err

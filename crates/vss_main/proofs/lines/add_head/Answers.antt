@@ -1,4 +1,4 @@
-use Rattle.vss_main.proofs.Growing.{head_written}
+use Rattle.vss_main.proofs.Listed.{head_written}
 use Rattle.vss_main.proofs.lines.add_head.Goals as goal
 
 pub returns : goal.returns

@@ -1,4 +1,4 @@
-use Rattle.vss_main.proofs.Growing.{slots_begin, slots_more}
+use Rattle.vss_main.proofs.Listed.{slots_begin, slots_more}
 use Rattle.vss_main.proofs.lines.add_slots.Goals as goal
 
 pub loop-slot-init : goal.loop-slot-init

@@ -1,6 +1,6 @@
 -- The lines of the slots so far.
 use Rattle.std.proofs.Common.{◌≡◌, ◌++◌}
-use Rattle.vss_main.specs.Listing.{slot_lines}
+use Rattle.vss_main.specs.Inspected.{slot_lines}
 use Rattle.vss_main.proofs.lines.add_slots.Given as goal
 
 abbrev pub invariant-loop-slot : goal.invariant-loop-slot

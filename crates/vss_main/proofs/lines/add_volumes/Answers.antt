@@ -1,4 +1,4 @@
-use Rattle.vss_main.proofs.Growing.{volumes_begin, volumes_more}
+use Rattle.vss_main.proofs.Listed.{volumes_begin, volumes_more}
 use Rattle.vss_main.proofs.lines.add_volumes.Goals as goal
 
 pub loop-volume-init : goal.loop-volume-init

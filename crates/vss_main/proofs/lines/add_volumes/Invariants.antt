@@ -1,6 +1,6 @@
 -- The lines of the volumes so far.
 use Rattle.std.proofs.Common.{◌≡◌, ◌++◌}
-use Rattle.vss_main.specs.Listing.{volume_lines}
+use Rattle.vss_main.specs.Inspected.{volume_lines}
 use Rattle.vss_main.proofs.lines.add_volumes.Given as goal
 
 abbrev pub invariant-loop-volume : goal.invariant-loop-volume

@@ -1,6 +1,6 @@
 use Rattle.std.proofs.Common.{◌∙◌}
 use Rattle.vss_main.proofs.Ran.{whole-ended, ran-if, counted-of, given-closed}
-use Rattle.vss_play.proofs.MakerCount.{fault-of}
+use Rattle.vss_play.proofs.FaultMarks.{fault-of}
 use Rattle.vss_main.proofs.reporting.report_of.Goals as goal
 
 pub returns-clause-ran : goal.returns-clause-ran

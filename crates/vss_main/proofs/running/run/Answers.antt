@@ -1,7 +1,6 @@
 use Rattle.std.proofs.Common.{refl, ap, sym, ◌∙◌}
 use Rattle.std.specs.Prelude.{option_map}
-use Rattle.vss_main.specs.Words.{shown}
-use Rattle.vss_main.specs.Command.{asked_by}
+use Rattle.vss_main.specs.Command.{shown, asked_by}
 use Rattle.vss_main.proofs.Asking.{wants_memory, memory_where_it_can, never_usage, nothing_given, asked_not_usage, memory_not_usage, answer_by, done_by, where_by, most_by, some_by}
 use Rattle.vss_main.proofs.running.run.Goals as goal
 

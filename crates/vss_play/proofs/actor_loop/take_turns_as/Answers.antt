@@ -1,8 +1,8 @@
 use Rattle.std.proofs.Common.{refl, ap, subst, sym, ◌∙◌, arith, Ok}
 use Rattle.std.specs.Prelude.{Result, Err, IsErr, OnErr}
 use Rattle.std.proofs.lemmas.Bool.Decides.{nat_tests}
-use Rattle.turn_cell.proofs.Histories.{prefix_self, prefix_trans}
-use Rattle.vss_play.proofs.ActorLoop.{begins, moved, blocked_once, turns, left_finished, left_blocked, wanted}
+use Rattle.turn_cell.proofs.Lists.{prefix_self, prefix_trans}
+use Rattle.vss_play.proofs.Histories.{begins, moved, blocked_once, turns, left_finished, left_blocked, wanted}
 use Rattle.vss_play.proofs.actor_loop.take_turns_as.Goals as goal
 
 when_err : {T E P : Type 0} (r : Result T E) → P → OnErr r P

@@ -1,7 +1,7 @@
 use Rattle.std.proofs.Common.{rules}
 use Rattle.coordinator.specs.OpenOrders.{standing_in}
 use Rattle.vss_model.specs.Acts.{state}
-use Rattle.vss_play.proofs.OneByOne.{given_here, none_next, some_next}
+use Rattle.vss_play.proofs.Answering.{given_here, none_next, some_next}
 use Rattle.vss_play.proofs.asking.first_answer.Goals as goal
 
 pub returns-in-Some-clause-answered : goal.returns-in-Some-clause-answered

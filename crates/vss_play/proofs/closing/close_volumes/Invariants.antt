@@ -1,5 +1,5 @@
 use Rattle.std.proofs.Common.{false}
-use Rattle.vss_world.specs.Devices.{tells_of}
+use Rattle.vss_world.specs.Stands.{tells_of}
 use Rattle.vss_play.specs.Closing.{Closes, HasVolumes}
 use Rattle.vss_play.proofs.closing.close_volumes.Given as goal
 

@@ -1,6 +1,6 @@
 use Rattle.std.proofs.Common.{refl, ◌∙◌}
 use Rattle.vss_play.proofs.ClosingLines.{any_earlier, quiet_same, quiet_trans, rose_failed}
-use Rattle.vss_play.proofs.Lasting.{each_volume, no_volume, volume_flushed}
+use Rattle.vss_play.proofs.Areas.{each_volume, no_volume, volume_flushed}
 use Rattle.vss_play.proofs.closing.flush_volumes.Goals as goal
 
 pub loop-volume-init : goal.loop-volume-init

@@ -1,7 +1,7 @@
 use Rattle.std.proofs.Common.{◌≡◌}
 use Rattle.std.specs.Prelude.{map}
 use Rattle.vss_world.specs.Quiet.{IsQuiet}
-use Rattle.vss_play.specs.Lasting.{FirstVolumesLasted}
+use Rattle.vss_play.specs.Made.{FirstVolumesLasted}
 use Rattle.vss_play.proofs.closing.flush_volumes.Given as goal
 
 abbrev pub invariant-loop-volume : goal.invariant-loop-volume

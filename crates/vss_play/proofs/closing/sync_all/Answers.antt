@@ -1,5 +1,4 @@
-use Rattle.vss_play.proofs.Areas.{areas_quiet}
-use Rattle.vss_play.proofs.Lasting.{both_lasted}
+use Rattle.vss_play.proofs.Areas.{areas_quiet, both_lasted}
 use Rattle.vss_play.proofs.closing.sync_all.Goals as goal
 
 pub returns-clause-areas : goal.returns-clause-areas

@@ -1,7 +1,6 @@
 use Rattle.std.proofs.Common.{refl, ◌∙◌}
-use Rattle.vss_play.proofs.Areas.{ending_same, ending_synced, ending_trans, still_ending, none_hold, one_holds, all_hold}
+use Rattle.vss_play.proofs.Areas.{ending_same, ending_synced, ending_trans, still_ending, none_hold, one_holds, all_hold, area_synced, each_area, no_area}
 use Rattle.vss_play.proofs.ClosingLines.{any_earlier, rose_at}
-use Rattle.vss_play.proofs.Lasting.{area_synced, each_area, no_area}
 use Rattle.vss_play.proofs.closing.sync_groups.Goals as goal
 
 pub loop-group-init : goal.loop-group-init

@@ -1,7 +1,7 @@
 use Rattle.std.proofs.Common.{◌≡◌}
 use Rattle.std.specs.Prelude.{map}
 use Rattle.vss_play.specs.Closing.{IsEnding}
-use Rattle.vss_play.specs.Lasting.{FirstAreasLasted}
+use Rattle.vss_play.specs.Made.{FirstAreasLasted}
 use Rattle.vss_play.proofs.Areas.{FirstHold}
 use Rattle.vss_play.proofs.closing.sync_groups.Given as goal
 

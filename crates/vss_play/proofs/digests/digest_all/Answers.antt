@@ -1,7 +1,6 @@
 use Rattle.std.proofs.Common.{refl}
-use Rattle.vss_play.proofs.Areas.{areas_quiet, still_ending}
+use Rattle.vss_play.proofs.Areas.{areas_quiet, still_ending, left_quiet}
 use Rattle.vss_play.proofs.ClosingLines.{still_ready, still_stands}
-use Rattle.vss_play.proofs.Lasting.{left_quiet}
 use Rattle.vss_play.proofs.digests.digest_all.Goals as goal
 
 pub returns-clause-areas : goal.returns-clause-areas

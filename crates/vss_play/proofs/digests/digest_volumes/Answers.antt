@@ -1,6 +1,6 @@
-use Rattle.vss_world.specs.Devices.{tells_of}
+use Rattle.vss_world.specs.Stands.{tells_of}
 use Rattle.vss_play.proofs.ClosingLines.{closes_none, closes_then, still_ready, still_stands}
-use Rattle.vss_play.proofs.Digesting.{no_digest, one_digest, all_digests}
+use Rattle.vss_play.proofs.Areas.{no_digest, one_digest, all_digests}
 use Rattle.vss_play.proofs.digests.digest_volumes.Goals as goal
 
 pub loop-volume-init : goal.loop-volume-init

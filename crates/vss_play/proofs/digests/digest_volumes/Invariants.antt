@@ -1,7 +1,6 @@
 use Rattle.std.proofs.Common.{false}
-use Rattle.vss_world.specs.Devices.{tells_of}
-use Rattle.vss_play.specs.Closing.{Closes}
-use Rattle.vss_play.specs.Digested.{FirstDigests}
+use Rattle.vss_world.specs.Stands.{tells_of}
+use Rattle.vss_play.specs.Closing.{Closes, FirstDigests}
 use Rattle.vss_play.proofs.digests.digest_volumes.Given as goal
 
 abbrev pub invariant-loop-volume : goal.invariant-loop-volume

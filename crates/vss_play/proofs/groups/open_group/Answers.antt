@@ -1,5 +1,5 @@
 use Rattle.std.proofs.Common.{◌∙◌, sym, subst}
-use Rattle.diff_area.specs.Records.{AreVolumes}
+use Rattle.diff_area.specs.Format.{AreVolumes}
 use Rattle.vss_play.proofs.Opening.{volumes_in, sizes_of_group}
 use Rattle.vss_play.proofs.groups.open_group.Goals as goal
 

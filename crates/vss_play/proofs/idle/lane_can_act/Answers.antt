@@ -1,5 +1,5 @@
 use Rattle.std.proofs.Common.{sym}
-use Rattle.vss_play.proofs.LaneLines.{lane_in, line_is_op}
+use Rattle.vss_play.proofs.Sorting.{lane_in, line_is_op}
 use Rattle.vss_play.proofs.idle.lane_can_act.Goals as goal
 
 pub is_enabled-requires-clause-in_range : goal.is_enabled-requires-clause-in_range

@@ -2,7 +2,7 @@ use Rattle.std.proofs.Common.{◌∙◌, ◌<◌, length, ap, sym, subst}
 use Rattle.std.specs.Prelude.{not}
 use Rattle.vss_model.specs.Acts.{state}
 use Rattle.vss_play.specs.Running.{lane_rests}
-use Rattle.vss_play.proofs.Idling.{all_more, one_not}
+use Rattle.vss_play.proofs.Answering.{all_more, one_not}
 use Rattle.vss_play.proofs.idle.lanes_rest.Goals as goal
 
 pub returns-then-lane_can_act : goal.returns-then-lane_can_act

@@ -5,11 +5,10 @@ use Rattle.std.specs.Prelude.{slice_get, slice_index_or}
 use Rattle.write_history.specs.declared.actor.Actor.{Actor}
 use Rattle.turn_cell.specs.Callers.{standing, seats, Calls}
 use Rattle.turn_cell.specs.Steps.{newcomer}
-use Rattle.turn_cell.specs.TurnEnd.{Stands}
+use Rattle.turn_cell.specs.History.{Stands}
 use Rattle.vss_play.specs.Acting.{HasActed}
 use Rattle.vss_play.specs.Played.{Played, IsOnward}
-use Rattle.vss_play.proofs.Histories.{led, played_after}
-use Rattle.vss_play.proofs.InThreads.{all_of, played_in_threads}
+use Rattle.vss_play.proofs.Histories.{led, played_after, all_of, played_in_threads}
 use Rattle.vss_play.proofs.in_threads.play_all.Goals as goal
 
 -- what is written back to the first places of a list

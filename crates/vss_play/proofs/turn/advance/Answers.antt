@@ -1,6 +1,6 @@
 use Rattle.std.proofs.Common.{subst}
 use Rattle.vss_play.specs.Running.{IsGoing}
-use Rattle.vss_play.proofs.GoingLanes.{goes_on, stays_on, one_ends}
+use Rattle.vss_play.proofs.Finishing.{goes_on, stays_on, one_ends}
 use Rattle.vss_play.proofs.turn.advance.Goals as goal
 
 pub returns-then-is_some-clause-going : goal.returns-then-is_some-clause-going

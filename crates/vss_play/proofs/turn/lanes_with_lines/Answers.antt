@@ -1,5 +1,5 @@
 use Rattle.std.proofs.Common.{true, false, sym, ◌∙◌, arith, add-zero}
-use Rattle.vss_play.proofs.GoingLanes.{with_lane, few_going}
+use Rattle.vss_play.proofs.Finishing.{with_lane, few_going}
 use Rattle.vss_play.proofs.turn.lanes_with_lines.Goals as goal
 use Rattle.vss_play.proofs.turn.lanes_with_lines.Goals.{then-is_some, else-is_some}
 

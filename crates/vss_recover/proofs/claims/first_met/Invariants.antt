@@ -1,7 +1,7 @@
 use Rattle.std.proofs.Common.{ℕ, ◌≡◌, ◌<◌, false, Some}
 use Rattle.std.specs.Prelude.{slice_get}
 use Rattle.vss_recover.specs.declared.claim.Claim.{Claim}
-use Rattle.vss_recover.specs.Claims.{meet}
+use Rattle.vss_recover.specs.Steps.{meet}
 use Rattle.vss_recover.proofs.claims.first_met.Given as goal
 
 -- those so far do not meet it

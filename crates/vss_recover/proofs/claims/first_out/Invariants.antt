@@ -1,7 +1,7 @@
 use Rattle.std.proofs.Common.{ℕ, ◌≡◌, ◌<◌, true, Some}
 use Rattle.std.specs.Prelude.{slice_get}
 use Rattle.vss_recover.specs.declared.claim.Claim.{Claim}
-use Rattle.vss_recover.specs.Claims.{is_within}
+use Rattle.vss_recover.specs.Steps.{is_within}
 use Rattle.vss_recover.proofs.claims.first_out.Given as goal
 
 -- those so far are within

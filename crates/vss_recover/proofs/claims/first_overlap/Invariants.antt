@@ -1,4 +1,4 @@
-use Rattle.vss_recover.specs.Claims.{AreApartBelow}
+use Rattle.vss_recover.specs.Steps.{AreApartBelow}
 use Rattle.vss_recover.proofs.claims.first_overlap.Given as goal
 
 -- those so far are apart

@@ -1,5 +1,5 @@
 use Rattle.std.proofs.Common.{◌≡◌, drop}
-use Rattle.vss_recover.specs.Claims.{owner_of}
+use Rattle.vss_recover.specs.Steps.{owner_of}
 use Rattle.vss_recover.proofs.claims.owner_of.Given as goal
 
 -- the owner is that by the claims that are left

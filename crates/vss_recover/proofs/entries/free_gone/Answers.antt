@@ -2,11 +2,11 @@ use Rattle.std.proofs.Common.{◌∙◌, sym, ap, get_or, true, map, List, Bool}
 use Rattle.std.specs.Prelude.{slice_set}
 use Rattle.std.proofs.lemmas.List.{map-set}
 use Rattle.diff_area.specs.AreaValue.{AreaValue}
-use Rattle.diff_area.specs.Records.{free, is_free}
+use Rattle.diff_area.specs.Format.{free, is_free}
 use Rattle.diff_map.specs.Copies.{copy_of}
 use Rattle.diff_map.specs.declared.entry.Entry.{Entry}
 use Rattle.cow_volume.specs.CopiesAfter.{with_records}
-use Rattle.cow_volume.specs.Followed.{record_for}
+use Rattle.cow_volume.specs.Changes.{record_for}
 use Rattle.vss_recover.proofs.Passing.{entry_at, step_set, step_kept, slot_within, passes_end}
 use Rattle.vss_recover.proofs.UsedSlots.{among, among_stays, among_goes, taken_there, followed_kept}
 use Rattle.vss_recover.proofs.entries.free_gone.Goals as goal

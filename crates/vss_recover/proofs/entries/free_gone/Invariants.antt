@@ -1,5 +1,5 @@
 use Rattle.std.proofs.Common.{◌≡◌, take, map}
-use Rattle.diff_area.specs.Records.{is_free}
+use Rattle.diff_area.specs.Format.{is_free}
 use Rattle.cow_volume.specs.CopiesAfter.{with_records}
 use Rattle.vss_recover.proofs.Passing.{passed}
 use Rattle.vss_recover.proofs.UsedSlots.{among}

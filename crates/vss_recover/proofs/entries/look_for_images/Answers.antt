@@ -1,6 +1,6 @@
 use Rattle.std.proofs.Common.{◌≡◌, [], ◌∷◌, ap, arith, inl, inr, true}
 use Rattle.std.proofs.lemmas.Option.{slice_get_within}
-use Rattle.diff_area.specs.Records.{is_free}
+use Rattle.diff_area.specs.Format.{is_free}
 use Rattle.cow_volume.proofs.TakingUp.{all_more}
 use Rattle.vss_recover.proofs.UsedSlots.{each_used}
 use Rattle.vss_recover.proofs.entries.look_for_images.Goals as goal

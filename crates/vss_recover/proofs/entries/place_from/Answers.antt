@@ -1,8 +1,8 @@
 use Rattle.std.proofs.Common.{ltb, arith, rules}
 use Rattle.std.proofs.lemmas.List.Sorted.{IsPartitionedBy-ltb, IsPartitionPoint-from_clause}
 use Rattle.std.proofs.lemmas.Bool.Decides.{nat_tests}
-use Rattle.diff_map.specs.Index.{place, place_of}
-use Rattle.diff_map.proofs.Places.{rising}
+use Rattle.diff_map.specs.Links.{place, place_of}
+use Rattle.diff_map.proofs.Noting.{rising}
 use Rattle.vss_recover.proofs.entries.place_from.Goals as goal
 
 pub returns-clause-before : goal.returns-clause-before

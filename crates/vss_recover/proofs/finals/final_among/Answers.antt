@@ -1,7 +1,7 @@
 use Rattle.std.proofs.Common.{◌<◌, ◌∙◌, ◌++◌, ◌∷◌, [], List, ℕ, Bool, ap, sym, arith, length, take, slice_index_or}
 use Rattle.std.specs.Prelude.{◌==◌, ◌||◌, filter, if◌then◌else◌}
 use Rattle.cow_volume.specs.Calls.{is_among}
-use Rattle.vss_recover.proofs.Glue.{filter_take, element_at, long_one_more}
+use Rattle.vss_recover.proofs.InParts.{filter_take, element_at, long_one_more}
 use Rattle.vss_recover.proofs.finals.final_among.Goals as goal
 use Rattle.vss_recover.proofs.finals.final_among.Goals.{then-is_final, else-is_final}
 

@@ -1,6 +1,6 @@
 use Rattle.std.proofs.Common.{refl}
 use Rattle.vss_recover.specs.Recoveries.{recovered}
-use Rattle.vss_recover.proofs.StepByStep.{shows_made}
+use Rattle.vss_recover.proofs.Standing.{shows_made}
 use Rattle.vss_recover.proofs.laws.images_show_what_was_made_since_the_cut.Goals as goal
 
 pub returns : goal.returns

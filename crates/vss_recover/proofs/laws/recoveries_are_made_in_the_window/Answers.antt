@@ -1,5 +1,5 @@
 use Rattle.std.proofs.Common.{None}
-use Rattle.vss_recover.proofs.StepByStep.{made_in}
+use Rattle.vss_recover.proofs.Standing.{made_in}
 use Rattle.vss_recover.proofs.laws.recoveries_are_made_in_the_window.Goals as goal
 
 pub returns : goal.returns

@@ -1,7 +1,7 @@
 use Rattle.std.proofs.Common.{arith, Some}
 use Rattle.set_agenda.specs.WriterSet.{has_bit}
 use Rattle.vss_report.specs.Words.{lost_text}
-use Rattle.vss_report.proofs.Losses.{one_more}
+use Rattle.vss_report.proofs.Telling.{one_more}
 use Rattle.vss_report.proofs.effects.add_all_lost.Goals as goal
 
 pub loop-writer-preserved : goal.loop-writer-preserved

@@ -1,4 +1,4 @@
-use Rattle.vss_report.proofs.Losses.{none_lost}
+use Rattle.vss_report.proofs.Telling.{none_lost}
 use Rattle.set_agenda.specs.WriterSet.{writers_of}
 use Rattle.vss_report.proofs.effects.add_losses.Goals as goal
 

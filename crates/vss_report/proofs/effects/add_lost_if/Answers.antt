@@ -1,5 +1,5 @@
 use Rattle.std.proofs.Common.{◌<◌, ◌∙◌, nat_eq, length, sym, ap}
-use Rattle.vss_report.proofs.Losses.{bit_is, holds_for}
+use Rattle.vss_report.proofs.Telling.{bit_is, holds_for}
 use Rattle.vss_report.proofs.effects.add_lost_if.Goals as goal
 
 pub add_lost-requires-clause-range : goal.add_lost-requires-clause-range

@@ -1,4 +1,4 @@
-use Rattle.vss_report.proofs.ScenarioNames.{named_legible}
+use Rattle.vss_report.proofs.LegibleWords.{named_legible}
 use Rattle.vss_report.proofs.laws.scenarios_are_legible.Goals as goal
 
 pub returns : goal.returns

@@ -1,4 +1,4 @@
-use Rattle.vss_report.proofs.MoveLines.{are_lines}
+use Rattle.vss_report.proofs.Telling.{are_lines}
 use Rattle.vss_report.proofs.ToldLegible.{told_legible}
 use Rattle.vss_report.proofs.lines.move_lines.Goals as goal
 use Rattle.std.proofs.Common.{arith}

@@ -1,7 +1,7 @@
 use Rattle.std.proofs.Common.{arith}
 use Rattle.std.proofs.lemmas.Grind.{common_steps}
 use Rattle.std.proofs.lemmas.Bool.Decides.{nat_tests}
-use Rattle.vss_report.proofs.Parting.{passes, ends, ends_text}
+use Rattle.vss_report.proofs.Joined.{passes, ends, ends_text}
 use Rattle.vss_report.proofs.pieces.piece_at.Goals as goal
 
 pub returns-then-text-end-clause-next : goal.returns-then-text-end-clause-next

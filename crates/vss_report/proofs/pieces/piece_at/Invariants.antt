@@ -1,7 +1,7 @@
 use Rattle.std.proofs.Common.{◌≡◌, drop}
 use Rattle.std.specs.Prelude.{slice_range}
 use Rattle.vss_report.specs.Pieces.{pieces}
-use Rattle.vss_report.proofs.Parting.{all_before}
+use Rattle.vss_report.proofs.Joined.{all_before}
 use Rattle.vss_report.proofs.pieces.piece_at.Given as goal
 
 -- the bytes that were passed are of the piece at hand

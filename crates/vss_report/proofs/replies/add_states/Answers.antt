@@ -1,5 +1,5 @@
 use Rattle.std.proofs.Common.{arith}
-use Rattle.vss_report.proofs.States.{more_states}
+use Rattle.vss_report.proofs.ReadReplies.{more_states}
 use Rattle.vss_report.proofs.replies.add_states.Goals as goal
 
 pub loop-writer-preserved : goal.loop-writer-preserved

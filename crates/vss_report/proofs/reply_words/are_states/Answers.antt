@@ -1,6 +1,6 @@
 use Rattle.std.proofs.Common.{arith}
 use Rattle.vss_report.specs.Pieces.{pieces_at}
-use Rattle.vss_report.proofs.StateWords.{no_state, no_such_state, one_state}
+use Rattle.vss_report.proofs.ReadReplies.{no_state, no_such_state, one_state}
 use Rattle.vss_report.proofs.reply_words.are_states.Goals as goal
 
 pub returns-in_default : goal.returns-in_default

@@ -1,6 +1,6 @@
 use Rattle.std.proofs.Common.{◌∙◌, length, sym, arith}
 use Rattle.vss_report.specs.Words.{lane_text}
-use Rattle.vss_report.proofs.StateWords.{next_named}
+use Rattle.vss_report.proofs.ReadReplies.{next_named}
 use Rattle.vss_report.proofs.shapes.lane_named.Goals as goal
 
 pub loop-lane-preserved : goal.loop-lane-preserved

@@ -1,6 +1,6 @@
 use Rattle.std.proofs.Common.{◌≡◌, ℕ, Some, None, sym, subst}
 use Rattle.vss_report.specs.Shapes as shapes
-use Rattle.vss_report.proofs.Values.{number_within, number_past}
+use Rattle.vss_report.proofs.Joined.{number_within, number_past}
 use Rattle.vss_report.proofs.shapes.number_up_to.Goals as goal
 
 pub returns-in-Ok : goal.returns-in-Ok

@@ -1,6 +1,6 @@
 use Rattle.std.proofs.Common.{◌∙◌, length, sym, arith}
 use Rattle.vss_report.specs.Words.{volume_text}
-use Rattle.vss_report.proofs.StateWords.{next_named}
+use Rattle.vss_report.proofs.ReadReplies.{next_named}
 use Rattle.vss_report.proofs.shapes.volume_named.Goals as goal
 
 pub loop-volume-preserved : goal.loop-volume-preserved

@@ -1,6 +1,6 @@
 use Rattle.std.proofs.Common.{◌∙◌, length, sym, arith}
 use Rattle.vss_report.specs.Words.{writer_text}
-use Rattle.vss_report.proofs.StateWords.{next_named}
+use Rattle.vss_report.proofs.ReadReplies.{next_named}
 use Rattle.vss_report.proofs.shapes.writer_named.Goals as goal
 
 pub loop-writer-preserved : goal.loop-writer-preserved

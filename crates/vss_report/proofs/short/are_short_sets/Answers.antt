@@ -2,8 +2,7 @@ use Rattle.std.proofs.Common.{subst}
 use Rattle.std.proofs.lemmas.List.{take_all}
 use Rattle.std.proofs.lemmas.List.Elements.{All-more}
 use Rattle.write_history.specs.declared.evicted.Evicted.{Evicted}
-use Rattle.vss_report.specs.Legible.{IsShort}
-use Rattle.vss_report.specs.LegibleOutcome.{AreShortSets}
+use Rattle.vss_report.specs.Legible.{IsShort, AreShortSets}
 use Rattle.vss_report.proofs.short.are_short_sets.Goals as goal
 
 pub loop-image-preserved : goal.loop-image-preserved

@@ -1,5 +1,5 @@
 use Rattle.std.proofs.Common.{take}
-use Rattle.vss_report.specs.LegibleOutcome.{AreShortSets}
+use Rattle.vss_report.specs.Legible.{AreShortSets}
 use Rattle.vss_report.proofs.short.are_short_sets.Given as goal
 
 -- of those that were passed

@@ -1,7 +1,7 @@
 use Rattle.std.proofs.Common.{refl, arith, inl, sym, ◌∙◌}
 use Rattle.vss_shards.specs.Shards.{history_of}
-use Rattle.vss_shards.proofs.Places.{none_of}
-use Rattle.vss_shards.proofs.Standing.{sets_few}
+use Rattle.vss_shards.proofs.Lists.{none_of}
+use Rattle.vss_shards.proofs.Keeping.{sets_few}
 use Rattle.vss_shards.proofs.cutting.collect.Goals as goal
 
 pub returns-then-len-ge-MOST_IMAGES-clause-collect : goal.returns-then-len-ge-MOST_IMAGES-clause-collect

@@ -1,8 +1,6 @@
 use Rattle.std.proofs.Common.{arith, Some}
 use Rattle.vss_shards.specs.Shards.{shard_value, history_of}
-use Rattle.vss_shards.proofs.Standing.{sets_length}
-use Rattle.vss_shards.proofs.Keeping.{held_for, newest_set, keeps_image}
-use Rattle.vss_shards.proofs.Onward.{goes_on_given}
+use Rattle.vss_shards.proofs.Keeping.{sets_length, held_for, newest_set, keeps_image, goes_on_given}
 use Rattle.vss_shards.proofs.cutting.give_back.Goals as goal
 
 pub cut-requires-clause-room : goal.cut-requires-clause-room

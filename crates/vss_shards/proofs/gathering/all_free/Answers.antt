@@ -1,7 +1,7 @@
 use Rattle.std.proofs.Common.{refl, arith, sym, ◌∙◌, ◌≡◌, ◌<◌, None, length}
 use Rattle.std.proofs.lemmas.Option.{slice_get_within}
 use Rattle.vss_shards.specs.Shards.{ShardValue}
-use Rattle.vss_shards.proofs.Places.{none_of, at_place, more_at}
+use Rattle.vss_shards.proofs.Lists.{none_of, at_place, more_at}
 use Rattle.vss_shards.proofs.gathering.all_free.Goals as goal
 
 pub returns-then-is_some-clause-held : goal.returns-then-is_some-clause-held

@@ -1,5 +1,5 @@
 use Rattle.std.proofs.Common.{ℕ, ◌<◌}
-use Rattle.vss_shards.specs.Gathered.{IsFree}
+use Rattle.vss_shards.specs.OneMoment.{IsFree}
 use Rattle.vss_shards.proofs.gathering.all_free.Given as goal
 
 -- no shard so far is held

@@ -2,7 +2,7 @@ use Rattle.std.proofs.Common.{◌<◌, ◌≤◌, refl, sym, ◌∙◌, arith, l
 use Rattle.std.proofs.lemmas.Option.{slice_get-get_or}
 use Rattle.vss_shards.specs.declared.small.Small.TheVariants.{Fill}
 use Rattle.vss_shards.specs.contracts.entry.EntryEq.TheImpl.Laws.{laws-law}
-use Rattle.vss_shards.proofs.Comparing.{differ_at, differ_past, found_at, option_apart}
+use Rattle.vss_shards.proofs.Lists.{differ_at, differ_past, found_at, option_apart}
 use Rattle.vss_shards.proofs.gathering.compare.Goals as goal
 
 pub returns-then-differs-clause-differ : goal.returns-then-differs-clause-differ

@@ -1,4 +1,4 @@
-use Rattle.vss_shards.proofs.Comparing.{Agree}
+use Rattle.vss_shards.proofs.Lists.{Agree}
 use Rattle.vss_shards.proofs.gathering.compare.Given as goal
 
 -- the list agrees with the journal so far

@@ -1,11 +1,11 @@
 use Rattle.std.proofs.Common.{arith, ◌≡◌, ◌<◌, length}
 use Rattle.std.proofs.lemmas.Option.{slice_get_within}
 use Rattle.std.proofs.lemmas.Result.{err_from_is_err_and}
-use Rattle.vss_shards.specs.Entries.{part_of}
-use Rattle.vss_shards.specs.Gathered.{IsOffIn}
+use Rattle.vss_shards.specs.Journals.{part_of}
+use Rattle.vss_shards.specs.OneMoment.{IsOffIn}
 use Rattle.vss_shards.specs.Shards.{ShardValue}
-use Rattle.vss_shards.proofs.Places.{at_place, more_at}
-use Rattle.vss_shards.proofs.Whole.{off_is_told}
+use Rattle.vss_shards.proofs.Lists.{at_place, more_at}
+use Rattle.vss_shards.proofs.Keeping.{off_is_told}
 use Rattle.vss_shards.proofs.gathering.gather.Goals as goal
 
 pub returns : goal.returns

@@ -1,5 +1,5 @@
 use Rattle.std.proofs.Common.{ℕ, ◌<◌}
-use Rattle.vss_shards.specs.Gathered.{IsPart}
+use Rattle.vss_shards.specs.OneMoment.{IsPart}
 use Rattle.vss_shards.proofs.gathering.gather.Given as goal
 
 -- each list so far is the journal's part of its volume

@@ -1,6 +1,6 @@
 use Rattle.std.proofs.Common.{◌≡◌, ◌<◌, None, arith, length}
 use Rattle.vss_shards.specs.Journals.{first_off, most_cuts}
-use Rattle.vss_shards.proofs.Moments.{journal_cut}
+use Rattle.vss_shards.proofs.Lists.{journal_cut}
 use Rattle.vss_shards.proofs.journal.store.Goals as goal
 
 pub invariant_of-journal-2 : goal.invariant_of-journal-2

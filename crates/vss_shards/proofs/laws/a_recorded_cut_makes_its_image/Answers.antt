@@ -1,4 +1,4 @@
-use Rattle.vss_shards.proofs.Made.{image_is_made}
+use Rattle.vss_shards.proofs.Keeping.{image_is_made}
 use Rattle.vss_shards.proofs.laws.a_recorded_cut_makes_its_image.Goals as goal
 
 pub returns : goal.returns

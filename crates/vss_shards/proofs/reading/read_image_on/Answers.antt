@@ -1,6 +1,5 @@
 use Rattle.vss_shards.specs.Shards.{shard_value}
-use Rattle.vss_shards.proofs.Keeping.{keeps_read, read_shown}
-use Rattle.vss_shards.proofs.Onward.{goes_on_read}
+use Rattle.vss_shards.proofs.Keeping.{keeps_read, read_shown, goes_on_read}
 use Rattle.vss_shards.proofs.reading.read_image_on.Goals as goal
 use Rattle.std.proofs.lemmas.Result.{on_ok_weaker}
 

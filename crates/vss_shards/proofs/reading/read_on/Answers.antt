@@ -1,6 +1,5 @@
 use Rattle.vss_shards.specs.Shards.{shard_value}
-use Rattle.vss_shards.proofs.Keeping.{keeps_read, read_now}
-use Rattle.vss_shards.proofs.Onward.{goes_on_read}
+use Rattle.vss_shards.proofs.Keeping.{keeps_read, read_now, goes_on_read}
 use Rattle.vss_shards.proofs.reading.read_on.Goals as goal
 use Rattle.std.proofs.lemmas.Result.{on_ok_weaker}
 

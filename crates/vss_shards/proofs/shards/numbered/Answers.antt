@@ -3,7 +3,7 @@ use Rattle.std.proofs.lemmas.List.{append-nil, nil_from_length}
 use Rattle.std.proofs.lemmas.List.Elements.{All-head, All-tail}
 use Rattle.std.proofs.Common.{◌≡◌, ◌∙◌, ◌+◌, ◌∷◌, ◌++◌, [], None, subst, sym, arith, length, ap, List, append_assoc}
 use Rattle.write_history.specs.History.{fresh}
-use Rattle.cow_volume.specs.GroupValue.{GroupValue}
+use Rattle.cow_volume.specs.StandsFor.{GroupValue}
 use Rattle.cow_volume.specs.OneVolume.{StandsForOne}
 use Rattle.vss_shards.specs.Shards.{ShardValue, shard_value, shards_from}
 use Rattle.vss_shards.proofs.shards.numbered.Goals as goal

@@ -2,7 +2,7 @@ use Rattle.std.proofs.Common.{rules}
 use Rattle.std.specs.Prelude.{nat_lt}
 use Rattle.std.proofs.lemmas.Fn.{filter_same}
 use Rattle.write_history.specs.History.{Image}
-use Rattle.vss_shards.proofs.Whole.{after_none}
+use Rattle.vss_shards.proofs.Keeping.{after_none}
 use Rattle.vss_shards.proofs.writing.forget_up_to.Goals as goal
 
 pub returns-clause-images : goal.returns-clause-images

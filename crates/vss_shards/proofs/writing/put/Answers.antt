@@ -1,10 +1,8 @@
 use Rattle.std.proofs.Common.{◌≡◌, ◌<◌, [], ◌∷◌, None, arith, length}
 use Rattle.vss_shards.specs.declared.entry.Entry.{Entry}
-use Rattle.vss_shards.specs.Entries.{most_entries}
+use Rattle.vss_shards.specs.Journals.{most_entries}
 use Rattle.vss_shards.specs.Shards.{shard_value, history_of}
-use Rattle.vss_shards.proofs.Standing.{images_stand}
-use Rattle.vss_shards.proofs.Keeping.{keeps_entry, keeps_gone}
-use Rattle.vss_shards.proofs.Onward.{goes_on_written, goes_on_gone}
+use Rattle.vss_shards.proofs.Keeping.{images_stand, keeps_entry, keeps_gone, goes_on_written, goes_on_gone}
 use Rattle.vss_shards.proofs.writing.put.Goals as goal
 
 pub forget_up_to-requires : goal.forget_up_to-requires

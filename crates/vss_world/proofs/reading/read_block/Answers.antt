@@ -1,4 +1,4 @@
-use Rattle.vss_world.proofs.Lent.{lent_told}
+use Rattle.vss_world.proofs.Looking.{lent_told}
 use Rattle.vss_world.proofs.reading.read_block.Goals as goal
 
 pub returns-in-Ok-Some : goal.returns-in-Ok-Some

@@ -1,7 +1,7 @@
 use Rattle.std.proofs.Common.{◌≡◌, ◌+◌, ◌-◌, ◌∙◌, sym, length, arith, true, false}
 use Rattle.std.proofs.lemmas.Bool.Decides.{nat_tests}
 use Rattle.vss_model.specs.Acts.{state}
-use Rattle.vss_world.proofs.KeptSets.{kept_sets_are, no_sets}
+use Rattle.vss_world.proofs.Kept.{kept_sets_are, no_sets}
 use Rattle.vss_world.proofs.showing.kept_sets.Goals as goal
 
 pub returns-then-count-eq0-clause-sets : goal.returns-then-count-eq0-clause-sets

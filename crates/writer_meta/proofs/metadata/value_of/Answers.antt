@@ -1,6 +1,6 @@
 use Rattle.std.proofs.Common.{ap, ok_or}
 use Rattle.writer_meta.specs.Refusal.{IsNotJson}
-use Rattle.writer_meta.proofs.Refusals.{no_value, has_value}
+use Rattle.writer_meta.proofs.Lists.{no_value, has_value}
 use Rattle.writer_meta.proofs.metadata.value_of.Goals as goal
 
 pub returns-in-Ok-clause-ok : goal.returns-in-Ok-clause-ok

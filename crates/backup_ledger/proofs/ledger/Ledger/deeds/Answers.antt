@@ -1,4 +1,4 @@
-use Rattle.backup_ledger.proofs.Kept.{are_of_one_moment}
+use Rattle.backup_ledger.proofs.RightDeeds.{are_of_one_moment}
 use Rattle.backup_ledger.proofs.ledger.Ledger.deeds.Goals as goal
 
 pub returns-clause-moment : goal.returns-clause-moment

@@ -1,6 +1,5 @@
 use Rattle.std.proofs.Common.{◌<◌, ℕ, slice_get}
-use Rattle.component_doc.specs.Held.{metas_of}
-use Rattle.component_doc.specs.Over.{IsKnownAllowed, meta_at}
+use Rattle.component_doc.specs.Over.{metas_of, IsKnownAllowed, meta_at}
 use Rattle.component_doc.proofs.metas.Metas.are_allowed.Given as goal
 
 -- the metadata of the writers so far are allowed

@@ -1,4 +1,4 @@
-use Rattle.component_doc.specs.Held.{metas_of}
+use Rattle.component_doc.specs.Over.{metas_of}
 use Rattle.component_doc.proofs.Known.{few-components, known-is}
 use Rattle.component_doc.proofs.metas.Metas.find.Goals as goal
 

@@ -1,6 +1,6 @@
 use Rattle.std.proofs.Common.{◌<◌, ◌≤◌, arith, length}
 use Rattle.std.proofs.lemmas.List.{length-map}
-use Rattle.component_doc.specs.Held.{metas_of}
+use Rattle.component_doc.specs.Over.{metas_of}
 use Rattle.component_doc.proofs.Known.{known-end, known-on}
 use Rattle.component_doc.proofs.metas.Metas.known.Goals as goal
 

@@ -1,5 +1,5 @@
 use Rattle.std.proofs.Common.{◌≡◌, ◌++◌, drop}
-use Rattle.component_doc.specs.Held.{metas_of}
+use Rattle.component_doc.specs.Over.{metas_of}
 use Rattle.component_doc.specs.Selection.{known_from}
 use Rattle.component_doc.proofs.metas.Metas.known.Given as goal
 

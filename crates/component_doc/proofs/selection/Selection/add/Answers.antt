@@ -1,9 +1,8 @@
 use Rattle.std.proofs.Common.{◌≡◌, ◌∙◌, ◌&&◌, ap, sym, refl, true, false, Some, slice_get, subst, List, rules}
 use Rattle.std.specs.List.{list_all}
-use Rattle.component_doc.specs.Held.{Held, metas_of, selected_of}
+use Rattle.component_doc.specs.Over.{Held, metas_of, selected_of, IsSelectedOver, names_selectable, is_ascending}
 use Rattle.component_doc.specs.Selection.{Pair, Named, found_of, has_pair}
-use Rattle.component_doc.specs.Over.{IsSelectedOver, names_selectable, is_ascending}
-use Rattle.component_doc.proofs.Added.{over-more}
+use Rattle.component_doc.proofs.Order.{over-more}
 use Rattle.component_doc.proofs.selection.Selection.add.Goals as goal
 
 pub returns-clause-over : goal.returns-clause-over

@@ -1,7 +1,7 @@
 use Rattle.std.proofs.Common.{◌≡◌, ◌<◌, Option, arith, ap, length, subst, sym, true}
 use Rattle.std.proofs.lemmas.List.{length-map}
 use Rattle.writer_meta.specs.Metadata.{Meta}
-use Rattle.component_doc.specs.Held.{Held, has_few, metas_of, selected_of}
+use Rattle.component_doc.specs.Over.{Held, has_few, metas_of, selected_of}
 use Rattle.component_doc.proofs.Known.{chosen-on, few-known}
 use Rattle.component_doc.proofs.selection.Selection.chosen.Goals as goal
 

@@ -3,9 +3,9 @@ use Rattle.component_doc.specs.Document.{IsDocumentOf}
 use Rattle.std.proofs.lemmas.Slice.Eq.{bytes_eq-Decides}
 use Rattle.std.specs.Str.{bytes_eq}
 use Rattle.std.proofs.lemmas.List.{length-map}
-use Rattle.component_doc.specs.Held.{metas_of}
-use Rattle.component_doc.proofs.Allowed.{few-from_allowed}
-use Rattle.component_doc.proofs.Alone.{no-context, no-selection-handed_on, no-document}
+use Rattle.component_doc.specs.Over.{metas_of}
+use Rattle.component_doc.proofs.Known.{few-from_allowed}
+use Rattle.component_doc.proofs.ReadBack.{no-context, no-selection-handed_on, no-document}
 use Rattle.component_doc.proofs.selection.Selection.from_json.Goals as goal
 
 -- texts that are not equal

@@ -1,5 +1,5 @@
 use Rattle.std.proofs.Common.{◌∙◌, ◌==◌, ◌&&◌, ap}
-use Rattle.component_doc.specs.Held.{selected_of}
+use Rattle.component_doc.specs.Over.{selected_of}
 use Rattle.component_doc.proofs.Known.{over-both}
 use Rattle.component_doc.proofs.selection.Selection.is_over.Goals as goal
 

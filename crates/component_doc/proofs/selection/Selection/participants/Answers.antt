@@ -1,7 +1,7 @@
 use Rattle.std.proofs.Common.{◌≡◌, ◌∙◌, ◌++◌, ◌∷◌, [], ℕ, Vec, Global, true, false, ap, sym}
 use Rattle.component_doc.specs.Selection.{Selected, is_taker}
-use Rattle.component_doc.specs.Held.{Held, selected_of}
-use Rattle.component_doc.proofs.Takers.{taken, passed}
+use Rattle.component_doc.specs.Over.{Held, selected_of}
+use Rattle.component_doc.proofs.Known.{taken, passed}
 use Rattle.component_doc.proofs.selection.Selection.participants.Goals as goal
 use Rattle.component_doc.proofs.selection.Selection.participants.Goals.{then-takes+in_ok-push, else-takes}
 

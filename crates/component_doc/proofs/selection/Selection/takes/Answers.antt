@@ -1,6 +1,6 @@
 use Rattle.std.proofs.Common.{◌∙◌, ◌&&◌, ap, nat_lt}
-use Rattle.component_doc.specs.Held.{selected_of}
-use Rattle.component_doc.proofs.Takers.{takes-is}
+use Rattle.component_doc.specs.Over.{selected_of}
+use Rattle.component_doc.proofs.Known.{takes-is}
 use Rattle.component_doc.proofs.selection.Selection.takes.Goals as goal
 
 pub returns : goal.returns

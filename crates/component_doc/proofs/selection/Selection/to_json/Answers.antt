@@ -3,12 +3,11 @@ use Rattle.serde_json.specs.View.{view}
 use Rattle.serde_json.specs.Written.{has_float, compact_text}
 use Rattle.serde_json.specs.Read.{read}
 use Rattle.writer_meta.specs.Document.{value_of_text}
-use Rattle.writer_meta.proofs.Refusals.{has_value}
-use Rattle.component_doc.specs.Held.{Held, metas_of}
+use Rattle.writer_meta.proofs.Lists.{has_value}
+use Rattle.component_doc.specs.Over.{Held, metas_of}
 use Rattle.component_doc.specs.Document.{document, document_text}
-use Rattle.component_doc.proofs.Allowed.{few-from_allowed}
-use Rattle.component_doc.proofs.ReadBack.{has_float-document, read-document_text}
-use Rattle.component_doc.proofs.Alone.{document-alone}
+use Rattle.component_doc.proofs.Known.{few-from_allowed}
+use Rattle.component_doc.proofs.ReadBack.{has_float-document, read-document_text, document-alone}
 use Rattle.component_doc.proofs.selection.Selection.to_json.Goals as goal
 
 pub chosen-requires-clause-few : goal.chosen-requires-clause-few

@@ -3,7 +3,7 @@ use Rattle.std.specs.Prelude.{◌&&◌, is_none}
 use Rattle.set_agenda.specs.Agenda.{is_frozen}
 use Rattle.set_agenda.proofs.WriterSets.{new-is}
 use Rattle.coordinator.specs.Effects.{outcome_told}
-use Rattle.coordinator.proofs.Telling.{newly-others, rests-is}
+use Rattle.coordinator.proofs.Fitting.{newly-others, rests-is}
 use Rattle.coordinator.proofs.before.Before.effects.Goals as goal
 
 pub returns : goal.returns

@@ -1,7 +1,7 @@
 use Rattle.std.proofs.Common.{ap, ◌∙◌}
 use Rattle.set_agenda.specs.Agenda.{open_place}
 use Rattle.coordinator.proofs.Following.{left-is}
-use Rattle.coordinator.proofs.Telling.{runs-is}
+use Rattle.coordinator.proofs.Fitting.{runs-is}
 use Rattle.coordinator.proofs.before.Before.of.Goals as goal
 
 pub returns : goal.returns

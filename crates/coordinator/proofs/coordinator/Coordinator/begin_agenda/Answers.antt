@@ -2,7 +2,7 @@ use Rattle.coordinator.specs.OpenOrders.{SentAtMost}
 use Rattle.std.proofs.Common.{ap, refl, rules, subst, sym, length, false, true, ◌≡◌, ◌∙◌}
 use Rattle.std.specs.Prelude.{is_some}
 use Rattle.component_doc.specs.Selection.{takers as takers_of}
-use Rattle.set_agenda.specs.Begin.{by_writer}
+use Rattle.set_agenda.specs.Advance.{by_writer}
 use Rattle.coordinator.specs.Beginning.{begun_as}
 use Rattle.coordinator.specs.KeptCourse.{IsBy, StandsFor, kind_if_done}
 use Rattle.coordinator.proofs.Begun.{begun-call}

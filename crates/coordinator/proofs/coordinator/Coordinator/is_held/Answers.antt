@@ -1,6 +1,6 @@
 use Rattle.std.proofs.Common.{◌∙◌}
 use Rattle.coordinator.proofs.Calls.{held}
-use Rattle.coordinator.proofs.Telling.{held-none, held-some}
+use Rattle.coordinator.proofs.Fitting.{held-none, held-some}
 use Rattle.coordinator.proofs.coordinator.Coordinator.is_held.Goals as goal
 
 pub returns-in-None : goal.returns-in-None

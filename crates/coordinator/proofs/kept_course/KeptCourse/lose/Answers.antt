@@ -1,6 +1,6 @@
 use Rattle.std.proofs.Common.{Some, ap, refl, sym, subst, ◌∙◌}
 use Rattle.writer_state.specs.declared.said.Said.TheVariants.{Lost}
-use Rattle.writer_state.specs.WriterRow.{row_after}
+use Rattle.writer_state.specs.WriterState.{row_after}
 use Rattle.set_agenda.specs.Agenda.{is_among, waits_now}
 use Rattle.set_agenda.specs.Course.{rows_where, told}
 use Rattle.coordinator.specs.KeptCourse.{Follows, left_now}

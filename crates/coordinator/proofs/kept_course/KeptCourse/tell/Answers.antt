@@ -1,5 +1,5 @@
 use Rattle.std.proofs.Common.{refl, [], ◌∷◌, ◌∙◌}
-use Rattle.writer_state.specs.WriterRow.{row_after}
+use Rattle.writer_state.specs.WriterState.{row_after}
 use Rattle.coordinator.proofs.Following.{follows-told, one-where}
 use Rattle.coordinator.proofs.kept_course.KeptCourse.tell.Goals as goal
 

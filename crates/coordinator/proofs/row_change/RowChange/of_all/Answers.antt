@@ -1,7 +1,7 @@
 use Rattle.std.proofs.lemmas.Grind.{common_steps}
 use Rattle.std.proofs.Common.{rules, arith, refl, sym, ap, ◌∙◌, true}
 use Rattle.coordinator.specs.KeptCourse.{changed}
-use Rattle.coordinator.proofs.RowChanges.{where-all, where-end, where-next}
+use Rattle.coordinator.proofs.Following.{where-all, where-end, where-next}
 use Rattle.coordinator.proofs.row_change.RowChange.of_all.Goals as goal
 
 pub loop-number-init : goal.loop-number-init

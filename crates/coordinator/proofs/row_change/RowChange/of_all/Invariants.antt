@@ -1,6 +1,6 @@
 use Rattle.std.proofs.Common.{length, ◌-◌, ◌≡◌, map, true}
 use Rattle.coordinator.specs.KeptCourse.{changed}
-use Rattle.coordinator.proofs.RowChanges.{where_from}
+use Rattle.coordinator.proofs.Following.{where_from}
 use Rattle.coordinator.proofs.row_change.RowChange.of_all.Given as goal
 
 abbrev pub invariant-loop-number : goal.invariant-loop-number

@@ -1,6 +1,6 @@
 use Rattle.std.proofs.Common.{ap, ◌∙◌}
 use Rattle.coordinator.specs.KeptCourse.{changed}
-use Rattle.coordinator.proofs.RowChanges.{where-at}
+use Rattle.coordinator.proofs.Following.{where-at}
 use Rattle.coordinator.proofs.row_change.RowChange.of_writer.Goals as goal
 
 pub returns-clause-rows : goal.returns-clause-rows

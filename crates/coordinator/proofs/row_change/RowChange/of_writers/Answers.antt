@@ -3,7 +3,7 @@ use Rattle.std.proofs.Common.{rules, arith, sym, ap, ◌∙◌}
 use Rattle.set_agenda.specs.Agenda.{is_among}
 use Rattle.set_agenda.specs.Course.{row_if}
 use Rattle.coordinator.specs.KeptCourse.{changed}
-use Rattle.coordinator.proofs.RowChanges.{where-end, where-next}
+use Rattle.coordinator.proofs.Following.{where-end, where-next}
 use Rattle.coordinator.proofs.row_change.RowChange.of_writers.Goals as goal
 
 pub loop-number-preserved : goal.loop-number-preserved

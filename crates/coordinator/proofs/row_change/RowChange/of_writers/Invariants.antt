@@ -2,7 +2,7 @@ use Rattle.std.proofs.Common.{length, ◌-◌, ◌≡◌}
 use Rattle.set_agenda.specs.Agenda.{is_among}
 use Rattle.set_agenda.specs.Course.{rows_where}
 use Rattle.coordinator.specs.KeptCourse.{changed}
-use Rattle.coordinator.proofs.RowChanges.{where_from}
+use Rattle.coordinator.proofs.Following.{where_from}
 use Rattle.coordinator.proofs.row_change.RowChange.of_writers.Given as goal
 
 abbrev pub invariant-loop-number : goal.invariant-loop-number

@@ -4,8 +4,7 @@ use Rattle.set_agenda.specs.Advance.{advance}
 use Rattle.set_agenda.specs.Agenda.{groups_left, is_asked}
 use Rattle.set_agenda.proofs.Held.{asked-waited}
 use Rattle.set_agenda.proofs.CourseRule.{one_alone}
-use Rattle.coordinator.proofs.Fitting.{Keeps, fits-all_say, keeps-entered}
-use Rattle.coordinator.proofs.KeptLimits.{none-after-keeps}
+use Rattle.coordinator.proofs.Fitting.{Keeps, fits-all_say, keeps-entered, none-after-keeps}
 use Rattle.coordinator.proofs.running_agenda.RunningAgenda.hear.Goals as goal
 
 pub returns : goal.returns

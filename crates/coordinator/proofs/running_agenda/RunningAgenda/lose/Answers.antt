@@ -4,8 +4,7 @@ use Rattle.writer_state.specs.declared.said.Said.TheVariants.{Lost}
 use Rattle.set_agenda.specs.Agenda.{Open, is_among, is_asking, waits_now}
 use Rattle.set_agenda.specs.WriterSet.{is_nil}
 use Rattle.set_agenda.proofs.GroupsLeft.{groups_left-waits}
-use Rattle.coordinator.proofs.Fitting.{Keeps, fits-all_say, keeps-entered}
-use Rattle.coordinator.proofs.KeptLimits.{none-after-keeps}
+use Rattle.coordinator.proofs.Fitting.{Keeps, fits-all_say, keeps-entered, none-after-keeps}
 use Rattle.coordinator.proofs.running_agenda.RunningAgenda.lose.Goals as goal
 
 pub returns : goal.returns

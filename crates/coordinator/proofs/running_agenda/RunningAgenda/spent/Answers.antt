@@ -1,5 +1,5 @@
 use Rattle.std.proofs.Common.{true, false}
-use Rattle.coordinator.proofs.KeptLimits.{spent-kept}
+use Rattle.coordinator.proofs.Fitting.{spent-kept}
 use Rattle.coordinator.proofs.running_agenda.RunningAgenda.spent.Goals as goal
 
 pub returns-then-is_spent_since-3 : goal.returns-then-is_spent_since-3

@@ -1,6 +1,6 @@
 use Rattle.std.proofs.Common.{arith, ◌≤◌, ◌∙◌}
 use Rattle.tick_limits.specs.Time.{answer_limit}
-use Rattle.coordinator.proofs.KeptLimits.{most-or, until-kept}
+use Rattle.coordinator.proofs.Fitting.{most-or, until-kept}
 use Rattle.coordinator.proofs.running_agenda.RunningAgenda.until_limit.Goals as goal
 
 pub returns-clause-ticks : goal.returns-clause-ticks

@@ -3,8 +3,7 @@ use Rattle.writer_state.specs.declared.said.Said.TheVariants.{Ok as SaidOk}
 use Rattle.set_agenda.specs.Agenda.{Open, groups_left, is_among, is_working, next_member, waits_now}
 use Rattle.set_agenda.proofs.Held.{next-waited}
 use Rattle.set_agenda.proofs.CourseRule.{one_alone}
-use Rattle.coordinator.proofs.Fitting.{Keeps, enters-not, fits-all_say, keeps-timed, no-freeze, no-thaw}
-use Rattle.coordinator.proofs.KeptLimits.{none-after-keeps}
+use Rattle.coordinator.proofs.Fitting.{Keeps, enters-not, fits-all_say, keeps-timed, no-freeze, no-thaw, none-after-keeps}
 use Rattle.coordinator.proofs.running_agenda.RunningAgenda.work.Goals as goal
 
 pub returns : goal.returns

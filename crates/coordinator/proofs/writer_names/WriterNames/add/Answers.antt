@@ -2,7 +2,7 @@ use Rattle.std.proofs.Common.{rules, ap, refl, map, ◌∙◌, ◌≡◌, ℕ, V
 use Rattle.std.specs.Str.{bytes_eq}
 use Rattle.indexmap.specs.IndexMap.{insert_entry}
 use Rattle.coordinator.specs.Coordinator.{registered}
-use Rattle.coordinator.proofs.Names.{insert-new}
+use Rattle.coordinator.proofs.Registering.{insert-new}
 use Rattle.coordinator.proofs.writer_names.WriterNames.add.Goals as goal
 
 abbrev same_key : Vec ℕ Global → Vec ℕ Global → Bool

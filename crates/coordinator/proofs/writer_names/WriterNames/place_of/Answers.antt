@@ -1,6 +1,6 @@
 use Rattle.std.proofs.Common.{ap, ◌∙◌}
 use Rattle.coordinator.specs.Coordinator.{place_of}
-use Rattle.coordinator.proofs.Names.{place-is}
+use Rattle.coordinator.proofs.Registering.{place-is}
 use Rattle.coordinator.proofs.writer_names.WriterNames.place_of.Goals as goal
 
 pub returns-clause-place : goal.returns-clause-place

@@ -1,8 +1,8 @@
 use Rattle.std.proofs.Common.{◌++◌, ◌∷◌, [], refl}
 use Rattle.diff_map.specs.Groups.{map_at, with_images}
-use Rattle.cow_volume.proofs.GroupMaps.{valid_now}
+use Rattle.cow_volume.proofs.Following.{valid_now}
 use Rattle.cow_volume.proofs.Ties.{has_map, tied_at, tied_added}
-use Rattle.cow_volume.proofs.Gone.{cut_is}
+use Rattle.cow_volume.proofs.MakingRoom.{cut_is}
 use Rattle.cow_volume.proofs.copies.Copies.add_image.Goals as goal
 
 pub returns : goal.returns

@@ -1,17 +1,16 @@
 use Rattle.std.proofs.Common.{ℕ, ◌≡◌, ◌≤◌, List, Some, ap, sym, subst, Contains}
 use Rattle.std.specs.Prelude.{nat_le, filter}
 use Rattle.cow_volume.specs.Calls.{sets_in}
-use Rattle.diff_map.specs.Copies.{copied_at}
-use Rattle.diff_map.specs.MapValue.{MapValue}
+use Rattle.diff_map.specs.Copies.{copied_at, MapValue}
 use Rattle.diff_map.specs.Rules.{cleared as cleared_rule}
 use Rattle.diff_map.specs.declared.copied.Copied.{Copied}
 use Rattle.diff_map.proofs.Renewing.{left_from}
 use Rattle.cow_volume.specs.Changes.{cleared_row}
 use Rattle.diff_map.specs.Groups.{map_at, with_images}
-use Rattle.cow_volume.proofs.GroupMaps.{set_after, valid_now}
+use Rattle.cow_volume.proofs.Following.{set_after, valid_now}
 use Rattle.cow_volume.proofs.Ties.{has_map, tied_at, images_at}
 use Rattle.cow_volume.proofs.Renewed.{all_taken, tied_after}
-use Rattle.cow_volume.proofs.Gone.{clear_rules, clear_is}
+use Rattle.cow_volume.proofs.MakingRoom.{clear_rules, clear_is}
 use Rattle.cow_volume.proofs.copies.Copies.clear_from.Goals as goal
 
 pub free_copies-requires-clause-tied : goal.free_copies-requires-clause-tied

@@ -1,7 +1,7 @@
 use Rattle.std.proofs.Common.{◌≡◌, ◌∙◌, ℕ, ap, subst, length, arith}
 use Rattle.std.proofs.lemmas.Bool.Decides.{nat_tests}
 use Rattle.cow_volume.specs.CopiesAfter.{after_gone, after_gone_on}
-use Rattle.cow_volume.proofs.GoingUpTo.{part_none, part_more, part_all}
+use Rattle.cow_volume.proofs.RecordCounts.{part_none, part_more, part_all}
 use Rattle.cow_volume.proofs.MakingRoom.{gone_nothing}
 use Rattle.cow_volume.proofs.copies.Copies.drop_up_to.Goals as goal
 

@@ -1,5 +1,5 @@
 use Rattle.std.proofs.Common.{◌≡◌}
-use Rattle.cow_volume.proofs.GoingUpTo.{part_gone}
+use Rattle.cow_volume.proofs.RecordCounts.{part_gone}
 use Rattle.cow_volume.proofs.copies.Copies.drop_up_to.Given as goal
 
 -- the images are gone from the volumes so far

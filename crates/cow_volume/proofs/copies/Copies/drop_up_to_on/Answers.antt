@@ -1,17 +1,15 @@
 use Rattle.std.proofs.Common.{ℕ, ◌≡◌, ◌<◌, Some, ap, sym, subst}
 use Rattle.std.specs.Prelude.{nat_lt, filter}
-use Rattle.diff_map.specs.Copies.{copied_at}
-use Rattle.diff_map.specs.MapValue.{MapValue}
+use Rattle.diff_map.specs.Copies.{copied_at, MapValue}
 use Rattle.diff_map.specs.Rules.{gone as gone_rule}
 use Rattle.diff_map.specs.declared.copied.Copied.{Copied}
 use Rattle.diff_map.proofs.Renewing.{left_up_to}
 use Rattle.cow_volume.specs.Changes.{gone_on_row}
 use Rattle.diff_map.specs.Groups.{map_at, with_images}
-use Rattle.cow_volume.proofs.GroupMaps.{set_after, valid_now}
+use Rattle.cow_volume.proofs.Following.{set_after, valid_now}
 use Rattle.cow_volume.proofs.Ties.{has_map, tied_at}
-use Rattle.cow_volume.proofs.Renewed.{all_taken, tied_after}
-use Rattle.cow_volume.proofs.Gone.{gone_is}
-use Rattle.cow_volume.proofs.MergeRules.{rule-gone}
+use Rattle.cow_volume.proofs.Renewed.{all_taken, tied_after, rule-gone}
+use Rattle.cow_volume.proofs.MakingRoom.{gone_is}
 use Rattle.cow_volume.proofs.copies.Copies.drop_up_to_on.Goals as goal
 
 pub free_copies-requires-clause-tied : goal.free_copies-requires-clause-tied

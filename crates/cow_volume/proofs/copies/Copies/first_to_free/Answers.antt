@@ -1,7 +1,7 @@
 use Rattle.std.proofs.Common.{◌∙◌, sym, ap, subst, List, ℕ, ◌<◌, ◌+◌, length, arith}
 use Rattle.cow_volume.specs.Calls.{sets_in}
 use Rattle.cow_volume.specs.CopiesAfter.{images_on}
-use Rattle.diff_map.specs.MapValue.{newest}
+use Rattle.diff_map.specs.Copies.{newest}
 use Rattle.cow_volume.proofs.MakingRoom.{IsLeastSoFar, first_none, first_more, first_all}
 use Rattle.cow_volume.proofs.copies.Copies.first_to_free.Goals as goal
 

@@ -1,6 +1,6 @@
 use Rattle.std.proofs.Common.{◌≡◌, ◌∙◌, ap, map, true}
 use Rattle.std.specs.Prelude.{IsNone, ◌↔◌}
-use Rattle.diff_area.specs.Records.{is_free}
+use Rattle.diff_area.specs.Format.{is_free}
 use Rattle.cow_volume.specs.Room.{is_full}
 use Rattle.slot_pool.specs.Slots.{free_count}
 use Rattle.cow_volume.proofs.Ties.{lowest_if, full_if, full_only}

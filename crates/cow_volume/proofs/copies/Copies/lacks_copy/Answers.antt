@@ -2,7 +2,7 @@ use Rattle.std.proofs.Common.{◌≡◌, ◌<◌, ◌∙◌, sym, ap, ℕ, List,
 use Rattle.std.proofs.lemmas.Bool.Decides.{nat_tests}
 use Rattle.cow_volume.specs.Calls.{sets_in}
 use Rattle.cow_volume.specs.Room.{lacks_copy}
-use Rattle.cow_volume.specs.Tied.{images_of}
+use Rattle.cow_volume.specs.Parts.{images_of}
 use Rattle.diff_map.specs.Groups.{map_at}
 use Rattle.cow_volume.proofs.Ties.{tied_at, images_at, lacks_none, lacks_if, newest_above}
 use Rattle.cow_volume.proofs.copies.Copies.lacks_copy.Goals as goal

@@ -2,7 +2,7 @@ use Rattle.std.proofs.Common.{◌≡◌, ◌∙◌, ap, map, true, false, arith}
 use Rattle.std.specs.Prelude.{nat_eq}
 use Rattle.std.proofs.lemmas.Bool.Decides.{nat_tests}
 use Rattle.slot_pool.specs.Slots.{free_count}
-use Rattle.diff_area.specs.Records.{is_free}
+use Rattle.diff_area.specs.Format.{is_free}
 use Rattle.cow_volume.specs.Room.{lacks_copy, is_full}
 use Rattle.cow_volume.specs.CopiesAfter.{images_on}
 use Rattle.cow_volume.proofs.Ties.{full_if, not_full_if, and_true, and_false}

@@ -1,17 +1,16 @@
 use Rattle.std.proofs.Common.{ℕ, ◌≡◌, ◌≢◌, not, List, Some, ap, sym, subst, Contains}
 use Rattle.std.specs.Prelude.{◌==◌, filter}
 use Rattle.cow_volume.specs.Calls.{sets_in}
-use Rattle.diff_map.specs.Copies.{copied_at}
-use Rattle.diff_map.specs.MapValue.{MapValue}
+use Rattle.diff_map.specs.Copies.{copied_at, MapValue}
 use Rattle.diff_map.specs.Rules.{next_older, merged as merged_rule}
 use Rattle.diff_map.specs.declared.copied.Copied.{Copied}
 use Rattle.diff_map.proofs.Renewing.{left_merged}
 use Rattle.cow_volume.specs.Changes.{merged_row}
 use Rattle.diff_map.specs.Groups.{map_at, with_images}
-use Rattle.cow_volume.proofs.GroupMaps.{set_after, valid_now}
+use Rattle.cow_volume.proofs.Following.{set_after, valid_now}
 use Rattle.cow_volume.proofs.Ties.{has_map, tied_at, images_at}
 use Rattle.cow_volume.proofs.Renewed.{all_taken, tied_after}
-use Rattle.cow_volume.proofs.Gone.{merge_rules, merge_is}
+use Rattle.cow_volume.proofs.MakingRoom.{merge_rules, merge_is}
 use Rattle.cow_volume.proofs.copies.Copies.merge.Goals as goal
 
 pub merge_copies-requires-clause-tied : goal.merge_copies-requires-clause-tied

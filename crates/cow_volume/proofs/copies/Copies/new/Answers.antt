@@ -1,9 +1,9 @@
 use Rattle.std.proofs.Common.{◌≡◌, ◌∙◌, List, Bool, ℕ, ap, sym, subst, map, replicate, length, true, [], refl}
 use Rattle.diff_map.specs.Groups.{new_map}
-use Rattle.diff_map.specs.MapValue.{MapValue}
-use Rattle.cow_volume.specs.Tied.{AreTied, images_of}
-use Rattle.cow_volume.proofs.NewCopies.{tied_new, images_new}
-use Rattle.cow_volume.proofs.Gone.{same_parts}
+use Rattle.diff_map.specs.Copies.{MapValue}
+use Rattle.cow_volume.specs.Parts.{AreTied, images_of}
+use Rattle.cow_volume.proofs.TakingUp.{tied_new, images_new}
+use Rattle.cow_volume.proofs.MakingRoom.{same_parts}
 use Rattle.cow_volume.proofs.copies.Copies.new.Goals as goal
 
 -- the maps of these volumes over these slots

@@ -1,12 +1,11 @@
 use Rattle.std.proofs.Common.{◌≡◌, ◌<◌, ◌∙◌, ℕ, Some, refl, ap, sym, subst}
 use Rattle.std.proofs.lemmas.Option.{slice_get_within, get_or_from_slice_get}
-use Rattle.diff_area.specs.Records.{free}
-use Rattle.diff_map.specs.MapValue.{newest}
-use Rattle.diff_map.specs.Copies.{copy_of}
+use Rattle.diff_area.specs.Format.{free}
+use Rattle.diff_map.specs.Copies.{newest, copy_of}
 use Rattle.diff_map.specs.Groups.{map_at, with_row}
-use Rattle.cow_volume.proofs.GroupMaps.{valid_now}
+use Rattle.cow_volume.proofs.Following.{valid_now}
 use Rattle.cow_volume.proofs.Ties.{has_map, tied_at, lacks_some, lacks_record, lacks_row, unnoted_all, free_slot_is, taken_lowest, tied_noted, newest_above, noted_lacks}
-use Rattle.cow_volume.proofs.Gone.{note_is}
+use Rattle.cow_volume.proofs.MakingRoom.{note_is}
 use Rattle.cow_volume.proofs.copies.Copies.note.Goals as goal
 
 pub newest-set-requires : goal.newest-set-requires

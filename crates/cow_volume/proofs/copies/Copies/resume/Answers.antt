@@ -1,6 +1,6 @@
 use Rattle.std.proofs.Common.{refl}
-use Rattle.cow_volume.specs.Tied.{images_of}
-use Rattle.cow_volume.proofs.Gone.{same_parts}
+use Rattle.cow_volume.specs.Parts.{images_of}
+use Rattle.cow_volume.proofs.MakingRoom.{same_parts}
 use Rattle.cow_volume.proofs.TakingUp.{tied_all, images_all}
 use Rattle.cow_volume.proofs.copies.Copies.resume.Goals as goal
 

@@ -3,12 +3,12 @@ use Rattle.std.proofs.lemmas.List.Elements.{All-contains}
 use Rattle.diff_map.specs.Counts.{used_for}
 use Rattle.diff_map.specs.declared.copied.Copied.{Copied}
 use Rattle.cow_volume.specs.Calls.{sets_in}
-use Rattle.cow_volume.specs.Counts.{count_of}
+use Rattle.cow_volume.specs.Changes.{count_of}
 use Rattle.cow_volume.specs.CopiesAfter.{images_on}
-use Rattle.cow_volume.specs.Tied.{CopiesValue}
+use Rattle.cow_volume.specs.Parts.{CopiesValue}
 use Rattle.diff_map.specs.Groups.{map_at}
 use Rattle.cow_volume.proofs.Ties.{tied_at, images_at}
-use Rattle.cow_volume.proofs.NotedCounts.{used_of}
+use Rattle.cow_volume.proofs.Rows.{used_of}
 use Rattle.cow_volume.proofs.copies.Copies.used_of.Goals as goal
 
 pub used_by-requires-clause-image : goal.used_by-requires-clause-image

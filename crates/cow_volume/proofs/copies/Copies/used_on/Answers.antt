@@ -2,7 +2,7 @@ use Rattle.std.proofs.Common.{◌∙◌, ap}
 use Rattle.diff_map.specs.Copies.{noted_in}
 use Rattle.diff_map.specs.Groups.{map_at}
 use Rattle.cow_volume.proofs.Ties.{tied_at}
-use Rattle.cow_volume.proofs.NotedCounts.{noted_on}
+use Rattle.cow_volume.proofs.Rows.{noted_on}
 use Rattle.cow_volume.proofs.copies.Copies.used_on.Goals as goal
 
 pub returns : goal.returns

@@ -2,7 +2,7 @@ use Rattle.std.proofs.Common.{◌∙◌, List, ap, sym, refl}
 use Rattle.write_history.specs.History.{History, cut as cut_at}
 use Rattle.cow_volume.specs.StandsFor.{StandsFor}
 use Rattle.cow_volume.specs.Calls.{changed_at}
-use Rattle.cow_volume.proofs.Cutting.{group_cut}
+use Rattle.cow_volume.proofs.Kept.{group_cut}
 use Rattle.cow_volume.specs.Parts.{group_of}
 use Rattle.cow_volume.proofs.cow_group.CowGroup.cut.Goals as goal
 

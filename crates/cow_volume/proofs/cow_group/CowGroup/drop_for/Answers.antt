@@ -1,5 +1,5 @@
 use Rattle.std.proofs.Common.{◌∙◌, ap, sym}
-use Rattle.cow_volume.proofs.RoomMade.{room_is}
+use Rattle.cow_volume.proofs.GroupWrites.{room_is}
 use Rattle.cow_volume.proofs.cow_group.CowGroup.drop_for.Goals as goal
 
 pub invariant_of-self : goal.invariant_of-self

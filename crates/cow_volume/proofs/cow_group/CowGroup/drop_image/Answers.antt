@@ -1,7 +1,7 @@
 use Rattle.std.proofs.Common.{◌≡◌, ◌∙◌, sym, true}
 use Rattle.cow_volume.specs.Calls.{is_among}
 use Rattle.cow_volume.specs.CopiesAfter.{images_on}
-use Rattle.cow_volume.proofs.DroppingNewer.{contains_of, image_gone}
+use Rattle.cow_volume.proofs.GroupReverts.{contains_of, image_gone}
 use Rattle.cow_volume.proofs.cow_group.CowGroup.drop_image.Goals as goal
 
 pub merge_image-requires-clause-image : goal.merge_image-requires-clause-image

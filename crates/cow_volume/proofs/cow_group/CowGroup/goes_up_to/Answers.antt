@@ -3,7 +3,7 @@ use Rattle.write_history.specs.History.{History}
 use Rattle.cow_volume.specs.StandsFor.{StandsFor}
 use Rattle.cow_volume.specs.Calls.{IsEvicted}
 use Rattle.cow_volume.specs.Parts.{group_of}
-use Rattle.cow_volume.proofs.RoomMade.{room_lift}
+use Rattle.cow_volume.proofs.GroupWrites.{room_lift}
 use Rattle.cow_volume.proofs.cow_group.CowGroup.goes_up_to.Goals as goal
 
 pub returns : goal.returns

@@ -1,6 +1,6 @@
 use Rattle.std.proofs.Common.{◌≤◌, ◌*◌, ◌∙◌, length, ap, sym, arith}
 use Rattle.cow_volume.proofs.Listed.{few_going}
-use Rattle.cow_volume.proofs.RoomMade.{room_is}
+use Rattle.cow_volume.proofs.GroupWrites.{room_is}
 use Rattle.cow_volume.proofs.cow_group.CowGroup.make_room.Goals as goal
 
 pub invariant_of-self : goal.invariant_of-self

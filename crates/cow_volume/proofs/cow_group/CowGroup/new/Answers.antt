@@ -1,4 +1,4 @@
-use Rattle.cow_volume.proofs.NewCopies.{new_stands}
+use Rattle.cow_volume.proofs.TakingUp.{new_stands}
 use Rattle.cow_volume.proofs.cow_group.CowGroup.new.Goals as goal
 
 pub returns-clause-stands : goal.returns-clause-stands

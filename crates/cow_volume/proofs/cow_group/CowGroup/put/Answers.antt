@@ -1,11 +1,10 @@
 use Rattle.std.proofs.Common.{◌≡◌, ◌∙◌, sym, true, false, refl, slice_set}
-use Rattle.block_data.specs.PayloadBytes.{payload_bytes}
+use Rattle.block_data.specs.BlockBytes.{payload_bytes}
 use Rattle.cow_volume.specs.Calls.{sets_at}
 use Rattle.cow_volume.specs.Room.{lacks_copy, is_full}
 use Rattle.cow_volume.specs.Parts.{group_of}
-use Rattle.cow_volume.proofs.CopiedOnce.{not_copied_area}
-use Rattle.cow_volume.proofs.GroupSteps.{device_at, device_within, fits_set}
-use Rattle.cow_volume.proofs.GroupWrites.{put_again, and_rest, put_size}
+use Rattle.cow_volume.proofs.GroupWrites.{not_copied_area, put_again, and_rest, put_size}
+use Rattle.cow_volume.proofs.DeviceCalls.{device_at, device_within, fits_set}
 use Rattle.cow_volume.proofs.cow_group.CowGroup.put.Goals as goal
 
 pub write_first-requires-clause-lacks : goal.write_first-requires-clause-lacks

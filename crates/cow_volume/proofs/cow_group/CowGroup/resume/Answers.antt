@@ -3,7 +3,7 @@ use Rattle.std.proofs.lemmas.List.{length-map}
 use Rattle.write_history.specs.History.{History}
 use Rattle.cow_volume.specs.Resuming.{AreKept, NoneTell}
 use Rattle.cow_volume.specs.StandsFor.{StandsFor}
-use Rattle.cow_volume.proofs.KeptParts.{kept_stands}
+use Rattle.cow_volume.proofs.Stored.{kept_stands}
 use Rattle.cow_volume.proofs.SomeHistory.{some_stand}
 use Rattle.cow_volume.proofs.cow_group.CowGroup.resume.Goals as goal
 

@@ -3,7 +3,7 @@ use Rattle.write_history.specs.History.{History}
 use Rattle.write_history.specs.Slots.{used}
 use Rattle.cow_volume.specs.StandsFor.{StandsFor}
 use Rattle.cow_volume.specs.Calls.{blocks_at, history_at}
-use Rattle.cow_volume.proofs.GroupCounts.{group_used_on}
+use Rattle.cow_volume.proofs.RecordCounts.{group_used_on}
 use Rattle.cow_volume.specs.Parts.{group_of}
 use Rattle.cow_volume.proofs.cow_group.CowGroup.used.Goals as goal
 

@@ -1,8 +1,7 @@
 use Rattle.std.proofs.Common.{◌≡◌, ◌∙◌, List}
 use Rattle.write_history.specs.History.{History}
 use Rattle.write_history.specs.Slots.{group_used}
-use Rattle.cow_volume.specs.GroupValue.{placed}
-use Rattle.cow_volume.specs.StandsFor.{StandsFor}
+use Rattle.cow_volume.specs.StandsFor.{placed, StandsFor}
 use Rattle.cow_volume.specs.Parts.{group_of}
 use Rattle.cow_volume.proofs.Counting.{group_used_of}
 use Rattle.cow_volume.proofs.cow_group.CowGroup.used_all.Goals as goal

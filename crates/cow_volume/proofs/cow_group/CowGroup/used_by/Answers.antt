@@ -3,7 +3,7 @@ use Rattle.write_history.specs.History.{History}
 use Rattle.write_history.specs.Slots.{used_by}
 use Rattle.cow_volume.specs.StandsFor.{StandsFor}
 use Rattle.cow_volume.specs.Calls.{is_among, sets_at, blocks_at, history_at}
-use Rattle.cow_volume.proofs.GroupCounts.{group_used_by, group_not_used_by}
+use Rattle.cow_volume.proofs.RecordCounts.{group_used_by, group_not_used_by}
 use Rattle.cow_volume.specs.CopiesAfter.{images_on}
 use Rattle.cow_volume.specs.Parts.{group_of}
 use Rattle.cow_volume.proofs.Evicting.{contains_among}

@@ -1,9 +1,8 @@
 use Rattle.std.proofs.Common.{ℕ, ◌<◌, ap, sym, subst, length, arith, refl, inl}
-use Rattle.block_data.specs.PayloadBytes.{payload_bytes}
+use Rattle.block_data.specs.BlockBytes.{payload_bytes}
 use Rattle.cow_volume.specs.Calls.{blocks_at}
-use Rattle.cow_volume.proofs.CopiedOnce.{once_of, once_with_room}
-use Rattle.cow_volume.proofs.GroupSteps.{within_blocks, past_blocks}
-use Rattle.cow_volume.proofs.GroupWrites.{is_written, is_unwritten, no_block}
+use Rattle.cow_volume.proofs.GroupWrites.{once_of, once_with_room, is_written, is_unwritten, no_block}
+use Rattle.cow_volume.proofs.DeviceCalls.{within_blocks, past_blocks}
 use Rattle.cow_volume.proofs.cow_group.CowGroup.write.Goals as goal
 
 pub returns-then-block-blocks-clause-write : goal.returns-then-block-blocks-clause-write

@@ -3,14 +3,14 @@ use Rattle.std.specs.Prelude.{slice_index, Ok}
 use Rattle.std.proofs.lemmas.Bool.{false≢true}
 use Rattle.std.proofs.lemmas.Result.{err_from_is_err_and}
 use Rattle.std.proofs.lemmas.Option.{slice_get_within}
-use Rattle.block_data.specs.PayloadBytes.{payload_bytes}
+use Rattle.block_data.specs.BlockBytes.{payload_bytes}
 use Rattle.slot_pool.specs.Slots.{IsLowestFree}
-use Rattle.diff_area.specs.Records.{free, is_free}
+use Rattle.diff_area.specs.Format.{free, is_free}
 use Rattle.diff_area.specs.declared.table_record.Record.{Record}
-use Rattle.cow_volume.specs.CopiedOnce.{IsAreaPut, IsCopyBroken}
+use Rattle.cow_volume.specs.CopiesAfter.{IsAreaPut, IsCopyBroken}
 use Rattle.cow_volume.specs.Parts.{group_of}
 use Rattle.cow_volume.proofs.Ties.{free_slot_is}
-use Rattle.cow_volume.proofs.GroupSteps.{device_at, device_within, fits_set}
+use Rattle.cow_volume.proofs.DeviceCalls.{device_at, device_within, fits_set}
 use Rattle.cow_volume.proofs.GroupWrites.{not_copied, not_overwritten, put_first, lacks_still, noted_copies, blocks_index}
 use Rattle.cow_volume.proofs.cow_group.CowGroup.write_first.Goals as goal
 

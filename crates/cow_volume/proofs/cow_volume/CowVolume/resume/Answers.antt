@@ -1,5 +1,5 @@
 use Rattle.std.proofs.Common.{◌≡◌, ◌∙◌, List, ap, length, subst, sym}
-use Rattle.cow_volume.specs.GroupValue.{GroupValue}
+use Rattle.cow_volume.specs.StandsFor.{GroupValue}
 use Rattle.cow_volume.specs.Resuming.{NoneTell}
 use Rattle.cow_volume.proofs.OneVolume.{one_untold}
 use Rattle.cow_volume.proofs.cow_volume.CowVolume.resume.Goals as goal

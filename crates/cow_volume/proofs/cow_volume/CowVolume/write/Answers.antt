@@ -1,5 +1,5 @@
 use Rattle.std.proofs.Common.{◌∙◌, ap, length}
-use Rattle.block_data.specs.PayloadBytes.{payload_bytes}
+use Rattle.block_data.specs.BlockBytes.{payload_bytes}
 use Rattle.cow_volume.proofs.OneVolume.{one_write, write_volumes}
 use Rattle.cow_volume.proofs.cow_volume.CowVolume.write.Goals as goal
 

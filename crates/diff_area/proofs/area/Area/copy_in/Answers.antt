@@ -1,5 +1,5 @@
 use Rattle.std.proofs.Common.{ℕ, ◌≡◌, List, Option, Result, OnOk, Ok, Err, ap, ◌∙◌, sym, option_map, slice_set, length, vec_len, rules}
-use Rattle.diff_area.specs.Places.{place_of_slot}
+use Rattle.diff_area.specs.Format.{place_of_slot}
 use Rattle.diff_area.proofs.Keeping.{keeps-copied}
 use Rattle.diff_area.proofs.area.Area.copy_in.Goals as goal
 

@@ -1,4 +1,4 @@
-use Rattle.diff_area.proofs.FromDevice.{copies_loaded}
+use Rattle.diff_area.proofs.OnDevice.{copies_loaded}
 use Rattle.diff_area.proofs.area.Area.load.Goals as goal
 
 pub returns-in-Ok-clause-copies : goal.returns-in-Ok-clause-copies

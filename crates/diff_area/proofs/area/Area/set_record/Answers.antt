@@ -1,5 +1,5 @@
 use Rattle.std.proofs.Common.{ap, ◌∙◌, sym, subst, length, slice_get, arith, rules}
-use Rattle.diff_area.specs.Records.{IsUsed}
+use Rattle.diff_area.specs.Format.{IsUsed}
 use Rattle.diff_area.proofs.Keeping.{keeps-set}
 use Rattle.diff_area.proofs.area.Area.set_record.Goals as goal
 

@@ -1,9 +1,8 @@
 use Rattle.std.proofs.Common.{ℕ, ◌≡◌, ap, ◌∙◌, sym, subst, List, length, option_map, vec_len, rules}
-use Rattle.diff_area.specs.AreaValue.{with_first, AreInPart}
+use Rattle.diff_area.specs.AreaValue.{with_first, AreInPart, table_blocks}
 use Rattle.diff_area.specs.Copies.{AreHeld}
-use Rattle.diff_area.specs.Written.{table_blocks}
 use Rattle.diff_area.specs.declared.table_record.Record.{Record}
-use Rattle.diff_area.proofs.Stored.{stands_told}
+use Rattle.diff_area.proofs.OnDevice.{stands_told}
 use Rattle.diff_area.proofs.Keeping.{keeps-synced, keeps-in_part}
 use Rattle.diff_area.proofs.area.Area.sync.Goals as goal
 

@@ -1,7 +1,6 @@
 use Rattle.std.proofs.Common.{ℕ, ◌≡◌, ◌≤◌, Some, sym, subst}
 use Rattle.diff_map.specs.declared.copied.Copied.{Copied}
-use Rattle.diff_map.specs.Copies.{copied_at}
-use Rattle.diff_map.specs.MapValue.{MapValue}
+use Rattle.diff_map.specs.Copies.{copied_at, MapValue}
 use Rattle.diff_map.proofs.Renewing.{left_from}
 use Rattle.diff_map.proofs.diff_map.DiffMap.clear_from.Goals as goal
 

@@ -1,5 +1,5 @@
 use Rattle.std.proofs.Common.{ℕ, List, ap, get_or, ◌∙◌}
-use Rattle.diff_map.proofs.Leaving.{drop_is}
+use Rattle.diff_map.proofs.Images.{drop_is}
 use Rattle.diff_map.proofs.diff_map.DiffMap.drop_oldest.Goals as goal
 
 pub returns-clause-map : goal.returns-clause-map

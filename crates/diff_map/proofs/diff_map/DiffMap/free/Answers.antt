@@ -1,6 +1,6 @@
 use Rattle.std.proofs.Common.{◌≡◌, true, ◌+◌, ◌<◌, ◌∙◌, refl, ap, sym, subst, arith, length, get_or}
-use Rattle.diff_map.specs.Leaving.{takes}
-use Rattle.diff_map.specs.MapValue.{MapValue}
+use Rattle.diff_map.specs.Rules.{takes}
+use Rattle.diff_map.specs.Copies.{MapValue}
 use Rattle.diff_map.proofs.Renewing.{FreesMapUpTo, FreesMapUpTo-popped, FreesMapUpTo-done, FreesMapUpTo-past, FreesMapUpTo-none, FreesMapUpTo-untaken, freed_map}
 use Rattle.diff_map.proofs.diff_map.DiffMap.free.Goals as goal
 use Rattle.diff_map.proofs.diff_map.DiffMap.free.Goals.{then-takes+in_default, else-takes}

@@ -1,11 +1,8 @@
 use Rattle.std.proofs.Common.{ℕ, ◌≡◌, ◌≢◌, not, eqb, Some, ap, sym, subst, ◌∙◌}
 use Rattle.std.specs.List.{filter}
-use Rattle.diff_map.specs.Chains.{KeepsFinds}
-use Rattle.diff_map.proofs.Finds.{merge_finds}
-use Rattle.diff_map.proofs.Leaving.{map_of}
+use Rattle.diff_map.specs.Copies.{KeepsFinds, copied_at, MapValue}
+use Rattle.diff_map.proofs.Images.{merge_finds, map_of}
 use Rattle.diff_map.specs.declared.copied.Copied.{Copied}
-use Rattle.diff_map.specs.Copies.{copied_at}
-use Rattle.diff_map.specs.MapValue.{MapValue}
 use Rattle.diff_map.proofs.Renewing.{left_merged}
 use Rattle.diff_map.proofs.diff_map.DiffMap.merge_down.Goals as goal
 

@@ -1,6 +1,6 @@
 use Rattle.std.proofs.Common.{◌<◌, ◌++◌, ◌∷◌, [], Bool, cond, length, ap, arith, All, ◌∙◌, sym, subst}
-use Rattle.diff_map.specs.MapValue.{MapValue}
-use Rattle.diff_map.specs.Parts.{own_copies}
+use Rattle.diff_map.specs.Copies.{MapValue}
+use Rattle.diff_map.specs.Groups.{own_copies}
 use Rattle.diff_map.proofs.Counted.{KeepsImages-cut, KeepsCounts-cut, as_many}
 use Rattle.diff_map.proofs.GroupChanges.{is_at, here, kept, KeepsGroup-images, maps_images}
 use Rattle.diff_map.proofs.group_map.GroupMap.add_image.Goals as goal

@@ -1,7 +1,7 @@
 use Rattle.std.proofs.Common.{refl, arith}
-use Rattle.diff_map.specs.Parts.{part_of}
+use Rattle.diff_map.specs.Groups.{part_of}
 use Rattle.diff_map.proofs.GroupChanges.{is_at, here, fits}
-use Rattle.diff_map.proofs.Parts.{absent_outside, found_if, none_if}
+use Rattle.diff_map.proofs.Grouped.{absent_outside, found_if, none_if}
 use Rattle.diff_map.proofs.group_map.GroupMap.find.Goals as goal
 
 pub returns-then-block-volume-clause-none : goal.returns-then-block-volume-clause-none

@@ -2,14 +2,11 @@ use Rattle.std.proofs.Common.{ℕ, ◌≡◌, ◌≢◌, ◌∙◌, true, not, e
 use Rattle.std.proofs.lemmas.Bool.Decides.{nat_tests}
 use Rattle.std.proofs.lemmas.List.{get_or_default}
 use Rattle.diff_map.specs.declared.copied.Copied.{Copied}
-use Rattle.diff_map.specs.Copies.{copied_at}
-use Rattle.diff_map.specs.MapValue.{MapValue}
-use Rattle.diff_map.specs.Parts.{own_copies}
-use Rattle.diff_map.proofs.Counted.{other_image_at}
-use Rattle.diff_map.proofs.ImagesLeft.{KeepsCounts-left, KeepsImages-left, counts_without}
+use Rattle.diff_map.specs.Copies.{copied_at, MapValue}
+use Rattle.diff_map.specs.Groups.{own_copies}
+use Rattle.diff_map.proofs.Counted.{other_image_at, KeepsCounts-left, KeepsImages-left, counts_without}
 use Rattle.diff_map.proofs.GroupChanges.{is_at, here, kept, KeepsGroup-images, maps_images}
-use Rattle.diff_map.proofs.ImagePlaces.{place_is}
-use Rattle.diff_map.proofs.Images.{filter_one}
+use Rattle.diff_map.proofs.Images.{place_is, filter_one}
 use Rattle.diff_map.proofs.group_map.GroupMap.forget.Goals as goal
 
 passes : (set image : ℕ) → image ≢ set → not (eqb image set) ≡ true

@@ -1,10 +1,9 @@
 use Rattle.std.proofs.Common.{ℕ, ◌≡◌, ◌≤◌, ◌∙◌, true, leb, filter, Some, ap, sym, subst, arith}
 use Rattle.std.proofs.lemmas.Bool.Decides.{nat_tests}
 use Rattle.diff_map.specs.declared.copied.Copied.{Copied}
-use Rattle.diff_map.specs.Copies.{copied_at}
-use Rattle.diff_map.specs.MapValue.{MapValue}
-use Rattle.diff_map.specs.Parts.{own_copies}
-use Rattle.diff_map.proofs.ImagesLeft.{KeepsCounts-left, KeepsImages-left, counts_until}
+use Rattle.diff_map.specs.Copies.{copied_at, MapValue}
+use Rattle.diff_map.specs.Groups.{own_copies}
+use Rattle.diff_map.proofs.Counted.{KeepsCounts-left, KeepsImages-left, counts_until}
 use Rattle.diff_map.proofs.GroupChanges.{is_at, here, kept, KeepsGroup-images, maps_images}
 use Rattle.diff_map.proofs.Images.{images_until}
 use Rattle.diff_map.proofs.group_map.GroupMap.forget_newer.Goals as goal

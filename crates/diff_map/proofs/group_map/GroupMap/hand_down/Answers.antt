@@ -1,6 +1,6 @@
 use Rattle.std.proofs.Common.{refl, length, ◌∙◌, ◌<◌, List, set, sym, ap, subst}
 use Rattle.diff_map.specs.Groups.{IsOnlyAt, IsUnnoted}
-use Rattle.diff_map.specs.MapValue.{MapValue}
+use Rattle.diff_map.specs.Copies.{MapValue}
 use Rattle.diff_map.proofs.GroupChanges.{is_at, copy_low, unnoted_popped, only_twice}
 use Rattle.diff_map.proofs.group_map.GroupMap.hand_down.Goals as goal
 

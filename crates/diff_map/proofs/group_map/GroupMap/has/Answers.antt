@@ -1,8 +1,8 @@
 use Rattle.std.proofs.Common.{arith}
 use Rattle.std.proofs.lemmas.Bool.{false≢true}
-use Rattle.diff_map.specs.Parts.{part_of}
+use Rattle.diff_map.specs.Groups.{part_of}
 use Rattle.diff_map.proofs.GroupChanges.{is_at, here, fits}
-use Rattle.diff_map.proofs.Parts.{has_if, has_outside}
+use Rattle.diff_map.proofs.Grouped.{has_if, has_outside}
 use Rattle.diff_map.proofs.group_map.GroupMap.has.Goals as goal
 
 pub returns-then-block-volume : goal.returns-then-block-volume

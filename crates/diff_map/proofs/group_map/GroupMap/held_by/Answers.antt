@@ -1,7 +1,6 @@
 use Rattle.std.proofs.Common.{◌∙◌, sym, ap, arith}
-use Rattle.diff_map.specs.Parts.{part_of, own}
-use Rattle.diff_map.proofs.Grouped.{long_at}
-use Rattle.diff_map.proofs.Parts.{own_at}
+use Rattle.diff_map.specs.Groups.{part_of, own}
+use Rattle.diff_map.proofs.Grouped.{long_at, own_at}
 use Rattle.diff_map.proofs.GroupChanges.{is_at, here}
 use Rattle.diff_map.proofs.group_map.GroupMap.held_by.Goals as goal
 

@@ -1,13 +1,10 @@
 use Rattle.std.proofs.Common.{ℕ, ◌<◌, ◌≡◌, ◌+◌, ◌-◌, ◌∙◌, Some, None, refl, sym, subst, ap, length, get_or, arith, Contains}
 use Rattle.std.specs.Vec.{with_item}
 use Rattle.std.proofs.lemmas.List.{get_or_default, get_or_read}
-use Rattle.diff_map.specs.Copies.{copy_of, HasCopy}
-use Rattle.diff_map.specs.Groups.{map_at, with_row}
-use Rattle.diff_map.specs.MapValue.{MapValue}
-use Rattle.diff_map.specs.Parts.{own_copies}
+use Rattle.diff_map.specs.Copies.{copy_of, HasCopy, MapValue}
+use Rattle.diff_map.specs.Groups.{map_at, with_row, own_copies}
 use Rattle.diff_map.proofs.Counted.{place_of_count}
-use Rattle.diff_map.proofs.GivenDown.{older_fits, KeepsGroup-given, maps_given, given_down}
-use Rattle.diff_map.proofs.GroupChanges.{is_at, here, kept, first, first_own, only_at}
+use Rattle.diff_map.proofs.GroupChanges.{older_fits, KeepsGroup-given, maps_given, given_down, is_at, here, kept, first, first_own, only_at}
 use Rattle.diff_map.proofs.group_map.GroupMap.lower.Goals as goal
 
 pub lower-requires-clause-below : goal.lower-requires-clause-below

@@ -1,13 +1,12 @@
 use Rattle.std.proofs.Common.{◌<◌, None, Contains, refl, subst, arith}
 use Rattle.std.proofs.lemmas.List.{length-map}
 use Rattle.std.proofs.lemmas.Option.{slice_get_within}
-use Rattle.diff_map.specs.Copies.{copy_of, HasCopy}
-use Rattle.diff_map.specs.MapValue.{MapValue}
-use Rattle.diff_map.specs.Parts.{own_copies, part_of, own}
+use Rattle.diff_map.specs.Copies.{copy_of, HasCopy, MapValue}
+use Rattle.diff_map.specs.Groups.{own_copies, part_of, own}
 use Rattle.diff_map.proofs.Counted.{used_is, one_more_fits}
 use Rattle.diff_map.proofs.Counting.{noted_fits}
-use Rattle.diff_map.proofs.ImagePlaces.{place_is}
-use Rattle.diff_map.proofs.Parts.{unnoted_own}
+use Rattle.diff_map.proofs.Images.{place_is}
+use Rattle.diff_map.proofs.Grouped.{unnoted_own}
 use Rattle.diff_map.proofs.GroupChanges.{is_at, here, kept, fits, unnoted_row, lacks_row, KeepsGroup-noted, maps_noted}
 use Rattle.diff_map.proofs.group_map.GroupMap.note_for.Goals as goal
 

@@ -1,4 +1,4 @@
-use Rattle.diff_map.specs.Parts.{own_copies}
+use Rattle.diff_map.specs.Groups.{own_copies}
 use Rattle.diff_map.proofs.Counted.{oldest_found, none_used}
 use Rattle.diff_map.proofs.GroupChanges.{is_at, here, kept}
 use Rattle.diff_map.proofs.group_map.GroupMap.oldest_used.Goals as goal

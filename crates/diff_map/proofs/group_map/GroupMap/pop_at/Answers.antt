@@ -1,9 +1,7 @@
 use Rattle.std.proofs.Common.{◌<◌, ◌≡◌, ◌+◌, ◌-◌, ◌∙◌, Some, None, refl, sym, subst, ap, length, get_or, arith}
 use Rattle.std.proofs.lemmas.List.{get_or_read}
-use Rattle.diff_map.specs.Copies.{copied_at, copy_of}
-use Rattle.diff_map.specs.Groups.{map_at, with_row}
-use Rattle.diff_map.specs.MapValue.{MapValue}
-use Rattle.diff_map.specs.Parts.{own_copies}
+use Rattle.diff_map.specs.Copies.{copied_at, copy_of, MapValue}
+use Rattle.diff_map.specs.Groups.{map_at, with_row, own_copies}
 use Rattle.diff_map.proofs.Counted.{used_at_place, place_of_count}
 use Rattle.diff_map.proofs.Counting.{noted_less}
 use Rattle.diff_map.proofs.GroupChanges.{is_at, here, kept, first, first_own, KeepsGroup-popped, maps_popped, map_popped, maps_still, only_at, only_still}

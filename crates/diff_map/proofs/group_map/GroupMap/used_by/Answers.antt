@@ -1,9 +1,9 @@
 use Rattle.std.proofs.Common.{subst, Contains}
-use Rattle.diff_map.specs.MapValue.{MapValue}
-use Rattle.diff_map.specs.Parts.{own_copies}
+use Rattle.diff_map.specs.Copies.{MapValue}
+use Rattle.diff_map.specs.Groups.{own_copies}
 use Rattle.diff_map.proofs.Counted.{used_is}
 use Rattle.diff_map.proofs.GroupChanges.{is_at, here, kept}
-use Rattle.diff_map.proofs.ImagePlaces.{place_is}
+use Rattle.diff_map.proofs.Images.{place_is}
 use Rattle.diff_map.proofs.group_map.GroupMap.used_by.Goals as goal
 
 pub returns : goal.returns

@@ -3,7 +3,7 @@ use Rattle.std.specs.Prelude.{IsNone, is_some}
 use Rattle.diff_map.specs.declared.copied.Copied.{Copied}
 use Rattle.diff_map.specs.Copies.{copied_at}
 use Rattle.diff_map.specs.Links.{LinksValue}
-use Rattle.diff_map.proofs.Lowered.{KeepsLinks-lower, lowered_is}
+use Rattle.diff_map.proofs.LinkedCopies.{KeepsLinks-lower, lowered_is}
 use Rattle.diff_map.proofs.links.Links.lower.Goals as goal
 
 none_is : (o : Option ℕ) → is_some o ≡ false → IsNone o

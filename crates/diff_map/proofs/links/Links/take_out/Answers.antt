@@ -2,8 +2,7 @@ use Rattle.std.proofs.Common.{◌≡◌, ◌∙◌, Some, None, not, length, ap,
 use Rattle.diff_map.specs.declared.copied.Copied.{Copied}
 use Rattle.diff_map.specs.Copies.{copied_at}
 use Rattle.diff_map.specs.Links.{LinksValue}
-use Rattle.diff_map.proofs.LinkedCopies.{value_after, value_at}
-use Rattle.diff_map.proofs.TakenOut.{OutRow, KeepsLinks-taken, KeepsLinks-oldest, block_read}
+use Rattle.diff_map.proofs.LinkedCopies.{value_after, value_at, OutRow, KeepsLinks-taken, KeepsLinks-oldest, block_read}
 use Rattle.diff_map.proofs.links.Links.take_out.Goals as goal
 
 pub next_above-above-requires-clause-in_range : goal.next_above-above-requires-clause-in_range

@@ -1,4 +1,4 @@
-use Rattle.image_store.proofs.Changed.{added_or}
+use Rattle.image_store.proofs.Heads.{added_or}
 use Rattle.image_store.proofs.head.Head.add.Goals as goal
 
 pub invariant_of-self : goal.invariant_of-self

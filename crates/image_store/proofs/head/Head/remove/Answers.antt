@@ -1,4 +1,4 @@
-use Rattle.image_store.proofs.Changed.{removed}
+use Rattle.image_store.proofs.Heads.{removed}
 use Rattle.image_store.proofs.head.Head.remove.Goals as goal
 
 pub invariant_of-self : goal.invariant_of-self

@@ -1,4 +1,4 @@
-use Rattle.image_store.proofs.Changed.{resized}
+use Rattle.image_store.proofs.Heads.{resized}
 use Rattle.image_store.proofs.head.Head.resize.Goals as goal
 
 pub invariant_of-self : goal.invariant_of-self

@@ -1,7 +1,6 @@
 use Rattle.std.proofs.Common.{◌≡◌}
-use Rattle.image_store.specs.Aims.{aim_of}
+use Rattle.image_store.specs.Ordering.{aim_of, HasMore}
 use Rattle.image_store.specs.Copying.{AreCopied}
-use Rattle.image_store.specs.Ordering.{HasMore}
 use Rattle.image_store.proofs.job.Job.copy_ahead.Given as goal
 
 -- copies were added

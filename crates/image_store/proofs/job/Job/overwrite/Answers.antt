@@ -1,4 +1,4 @@
-use Rattle.image_store.specs.Aims.{aim_of}
+use Rattle.image_store.specs.Ordering.{aim_of}
 use Rattle.image_store.proofs.Orders.{job_written, ok_then}
 use Rattle.image_store.proofs.job.Job.overwrite.Goals as goal
 

@@ -1,4 +1,4 @@
-use Rattle.image_store.specs.Aims.{aims_of}
+use Rattle.image_store.specs.Ordering.{aims_of}
 use Rattle.image_store.proofs.Orders.{brought_still, opens_still}
 use Rattle.image_store.proofs.ordering.StorePassesJobs.finish.Goals as goal
 

@@ -1,4 +1,4 @@
-use Rattle.image_store.specs.Aims.{aims_of}
+use Rattle.image_store.specs.Ordering.{aims_of}
 use Rattle.image_store.proofs.Orders.{ok_then, overwrite_brings, overwrite_opens}
 use Rattle.image_store.proofs.ordering.StorePassesJobs.overwrite.Goals as goal
 

@@ -1,5 +1,4 @@
-use Rattle.image_store.specs.Aims.{aims_of}
-use Rattle.image_store.specs.Ordering.{without}
+use Rattle.image_store.specs.Ordering.{aims_of, without}
 use Rattle.image_store.proofs.Orders.{brought_still, may_more, opens_still, so_far_still, synced_covers, synced_holds}
 use Rattle.image_store.proofs.Stores.{synced}
 use Rattle.image_store.proofs.ordering.StorePassesJobs.sync.Goals as goal

@@ -1,6 +1,6 @@
 use Rattle.std.proofs.Common.{refl}
 use Rattle.image_store.proofs.Stores.{store_of, named_still, dropped_step, dropped_volumes}
-use Rattle.image_store.proofs.Lists.{dropped_lists, dropped_stood}
+use Rattle.image_store.proofs.Unwritten.{dropped_lists, dropped_stood}
 use Rattle.image_store.proofs.UnderWay.{dropped_under_way}
 use Rattle.image_store.proofs.store.Store.drop_image.Goals as goal
 

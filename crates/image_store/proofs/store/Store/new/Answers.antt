@@ -2,9 +2,9 @@ use Rattle.std.proofs.Common.{◌≡◌, ◌∙◌, ℕ, List, Err, ap, sym, sub
 use Rattle.std.proofs.lemmas.Result.{err_from_is_err_and}
 use Rattle.std.specs.Prelude.{is_some}
 use Rattle.cow_volume.specs.Ending.{AllTell}
-use Rattle.cow_volume.specs.GroupValue.{GroupValue}
-use Rattle.vss_names.specs.TextValue.{TextValue}
-use Rattle.image_store.specs.Naming.{AreApart, AreNoNames}
+use Rattle.cow_volume.specs.StandsFor.{GroupValue}
+use Rattle.vss_names.specs.Names.{TextValue}
+use Rattle.image_store.specs.StoreValue.{AreApart, AreNoNames}
 use Rattle.image_store.specs.declared.new_fault.NewFault.TheVariants.{Names}
 use Rattle.image_store.proofs.Stores.{store_of, fresh_stands}
 use Rattle.image_store.proofs.store.Store.new.Goals as goal

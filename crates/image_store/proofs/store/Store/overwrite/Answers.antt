@@ -1,5 +1,5 @@
 use Rattle.std.proofs.Common.{refl, subst}
-use Rattle.diff_map.specs.MapValue.{AreImages}
+use Rattle.diff_map.specs.Copies.{AreImages}
 use Rattle.image_store.proofs.Stores.{store_of, named_still, overwriting}
 use Rattle.image_store.proofs.UnderWay.{overwrite_under_way}
 use Rattle.image_store.proofs.store.Store.overwrite.Goals as goal

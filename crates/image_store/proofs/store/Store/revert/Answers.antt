@@ -1,6 +1,6 @@
 use Rattle.std.proofs.Common.{refl, ap}
 use Rattle.image_store.proofs.Stores.{store_of, named_still, revert_is, revert_volumes}
-use Rattle.image_store.proofs.Lists.{reverted_lists}
+use Rattle.image_store.proofs.Unwritten.{reverted_lists}
 use Rattle.image_store.proofs.store.Store.revert.Goals as goal
 
 pub invariant_of-self : goal.invariant_of-self

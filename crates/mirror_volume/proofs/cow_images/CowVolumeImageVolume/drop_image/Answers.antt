@@ -1,4 +1,4 @@
-use Rattle.mirror_volume.proofs.CowContracts.{drop_is, drop_same}
+use Rattle.mirror_volume.proofs.Flushing.{drop_is, drop_same}
 use Rattle.mirror_volume.proofs.cow_images.CowVolumeImageVolume.drop_image.Goals as goal
 
 pub returns-clause-dropped : goal.returns-clause-dropped

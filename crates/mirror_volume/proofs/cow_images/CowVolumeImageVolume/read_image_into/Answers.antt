@@ -1,4 +1,4 @@
-use Rattle.mirror_volume.proofs.CowContracts.{image_is, kept_same}
+use Rattle.mirror_volume.proofs.Flushing.{image_is, kept_same}
 use Rattle.mirror_volume.proofs.cow_images.CowVolumeImageVolume.read_image_into.Goals as goal
 use Rattle.std.proofs.Common.{arith}
 use Rattle.std.proofs.lemmas.Bool.Decides.{nat_tests}

@@ -1,4 +1,4 @@
-use Rattle.mirror_volume.proofs.CowContracts.{read_is, kept_same}
+use Rattle.mirror_volume.proofs.Flushing.{read_is, kept_same}
 use Rattle.mirror_volume.proofs.cow_images.CowVolumeImageVolume.read_into.Goals as goal
 use Rattle.std.proofs.Common.{arith}
 use Rattle.std.proofs.lemmas.Bool.Decides.{nat_tests}

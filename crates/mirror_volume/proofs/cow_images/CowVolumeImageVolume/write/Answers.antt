@@ -1,4 +1,4 @@
-use Rattle.mirror_volume.proofs.CowContracts.{write_is, write_same}
+use Rattle.mirror_volume.proofs.Flushing.{write_is, write_same}
 use Rattle.mirror_volume.proofs.cow_images.CowVolumeImageVolume.write.Goals as goal
 use Rattle.std.proofs.Common.{arith}
 use Rattle.std.proofs.lemmas.Bool.Decides.{nat_tests}

@@ -1,4 +1,4 @@
-use Rattle.block_data.specs.PayloadBytes.{payload_bytes}
+use Rattle.block_data.specs.BlockBytes.{payload_bytes}
 use Rattle.mirror_volume.proofs.Contracts.{write_is, write_same, write_ready}
 use Rattle.mirror_volume.proofs.mirror_images.MirrorVolumeImageVolume.write.Goals as goal
 

@@ -2,8 +2,8 @@ use Rattle.std.proofs.Common.{◌++◌, ◌∷◌, [], Some, List, subst, refl, 
 use Rattle.std.specs.Prelude.{is_ok, slice_set}
 use Rattle.mirror_volume.specs.declared.mirror.Mirror.{Mirror}
 use Rattle.mirror_volume.specs.MirrorCalls.{NoneReady}
-use Rattle.mirror_volume.proofs.Ready.{ready_none}
-use Rattle.mirror_volume.proofs.Among.{new_set}
+use Rattle.mirror_volume.proofs.Held.{ready_none}
+use Rattle.mirror_volume.proofs.Counts.{new_set}
 use Rattle.mirror_volume.proofs.Standing.{cut_stands}
 use Rattle.mirror_volume.proofs.Keeping.{value_of, first_at, first_of, within_first, pushed, keeps_cut}
 use Rattle.mirror_volume.proofs.mirror_volume.MirrorVolume.cut.Goals as goal

@@ -1,9 +1,8 @@
 use Rattle.std.proofs.Common.{refl}
 use Rattle.std.specs.Prelude.{slice_set}
 use Rattle.mirror_volume.specs.declared.mirror.Mirror.{Mirror}
-use Rattle.mirror_volume.proofs.Following.{at_place}
+use Rattle.mirror_volume.proofs.Keeping.{at_place, value_of, keeps_one}
 use Rattle.mirror_volume.proofs.Standing.{quiet_on_stands}
-use Rattle.mirror_volume.proofs.Keeping.{value_of, keeps_one}
 use Rattle.mirror_volume.proofs.mirror_volume.MirrorVolume.flush_mirror.Goals as goal
 
 pub invariant_of-self : goal.invariant_of-self

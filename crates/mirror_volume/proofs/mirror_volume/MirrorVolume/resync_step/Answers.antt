@@ -1,8 +1,7 @@
 use Rattle.std.proofs.Common.{refl}
 use Rattle.std.specs.Prelude.{slice_set}
-use Rattle.mirror_volume.proofs.Following.{at_place}
+use Rattle.mirror_volume.proofs.Keeping.{at_place, value_of, keeps_synced}
 use Rattle.mirror_volume.proofs.Standing.{synced_stands}
-use Rattle.mirror_volume.proofs.Keeping.{value_of, keeps_synced}
 use Rattle.mirror_volume.proofs.mirror_volume.MirrorVolume.resync_step.Goals as goal
 
 pub invariant_of-self : goal.invariant_of-self

@@ -1,6 +1,6 @@
 use Rattle.std.proofs.Common.{◌≡◌, ◌<◌, ◌∙◌, List, ℕ, true, false, subst, refl, arith}
 use Rattle.std.specs.Prelude.{is_err}
-use Rattle.block_data.specs.PayloadBytes.{payload_bytes}
+use Rattle.block_data.specs.BlockBytes.{payload_bytes}
 use Rattle.mirror_volume.specs.declared.mirror.Mirror.{Mirror}
 use Rattle.mirror_volume.specs.MirrorCalls.{AreFollowed, IsWritten}
 use Rattle.mirror_volume.proofs.Standing.{quiet_stands, written_stands}

@@ -1,6 +1,6 @@
 use Rattle.std.proofs.Common.{◌<◌, ◌∙◌, Some, ap, arith, length}
 use Rattle.std.proofs.lemmas.Grind.{common_steps}
-use Rattle.mirror_volume.proofs.Following.{at_place}
+use Rattle.mirror_volume.proofs.Keeping.{at_place}
 use Rattle.mirror_volume.proofs.Counts.{count_few, keeps_marked, keeps_queued, is_taken_of, is_free_of}
 use Rattle.mirror_volume.proofs.stale_blocks.StaleBlocks.mark.Goals as goal
 

@@ -1,5 +1,5 @@
 use Rattle.std.proofs.Common.{◌∙◌, Some, ap}
-use Rattle.mirror_volume.proofs.Following.{at_place}
+use Rattle.mirror_volume.proofs.Keeping.{at_place}
 use Rattle.mirror_volume.proofs.Counts.{keeps_unmarked}
 use Rattle.mirror_volume.proofs.stale_blocks.StaleBlocks.unmark.Goals as goal
 

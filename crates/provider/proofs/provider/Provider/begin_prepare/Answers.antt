@@ -1,6 +1,6 @@
 use Rattle.std.proofs.Common.{◌≡◌, ◌∙◌, ℕ, List, length, ap, sym, None}
 use Rattle.provider.specs.Preparing.{refusal}
-use Rattle.provider.proofs.Refused.{provider_joined}
+use Rattle.provider.proofs.Joining.{provider_joined}
 use Rattle.provider.proofs.provider.Provider.begin_prepare.Goals as goal
 
 pub invariant_of-self : goal.invariant_of-self

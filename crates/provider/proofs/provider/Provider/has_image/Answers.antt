@@ -1,4 +1,4 @@
-use Rattle.provider.proofs.Looked.{image_listed}
+use Rattle.provider.proofs.Dropped.{image_listed}
 use Rattle.provider.proofs.provider.Provider.has_image.Goals as goal
 
 pub returns : goal.returns

@@ -1,4 +1,4 @@
-use Rattle.provider.proofs.Fresh.{fresh_stand}
+use Rattle.provider.proofs.Joining.{fresh_stand}
 use Rattle.provider.proofs.provider.Provider.new.Goals as goal
 
 pub returns-clause-fresh : goal.returns-clause-fresh

@@ -1,8 +1,7 @@
 use Rattle.std.proofs.Common.{arith, is_some}
 use Rattle.provider.specs.Words.{counted_as}
 use Rattle.provider.proofs.Found.{found_by, group_low, inside}
-use Rattle.provider.proofs.Called.{called, revert_kept, revert_of}
-use Rattle.provider.proofs.Uncounted.{stops_of}
+use Rattle.provider.proofs.Called.{called, revert_kept, revert_of, stops_of}
 use Rattle.provider.proofs.provider.Provider.revert.Goals as goal
 use Rattle.provider.proofs.Kept.{provider_kept}
 

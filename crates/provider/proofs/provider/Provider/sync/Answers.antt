@@ -1,6 +1,6 @@
 use Rattle.std.proofs.Common.{refl, ap, arith, length}
 use Rattle.provider.proofs.Words.{ProviderValue, device_read}
-use Rattle.provider.proofs.Ended.{sync_cause, sync_lasts, sync_of}
+use Rattle.provider.proofs.InGroup.{sync_cause, sync_lasts, sync_of}
 use Rattle.provider.proofs.provider.Provider.sync.Goals as goal
 use Rattle.provider.proofs.Kept.{provider_kept}
 

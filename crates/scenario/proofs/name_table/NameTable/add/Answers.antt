@@ -1,7 +1,7 @@
 use Rattle.std.proofs.Common.{rules, ap, map, ◌∙◌, ◌≡◌, refl, ℕ, Vec, Global, Bool}
 use Rattle.std.specs.Str.{bytes_eq}
 use Rattle.indexmap.specs.IndexSet.{insert_key}
-use Rattle.scenario.proofs.Taken.{items_of, insert_new}
+use Rattle.scenario.proofs.Growing.{items_of, insert_new}
 use Rattle.scenario.proofs.name_table.NameTable.add.Goals as goal
 
 abbrev same_key : Vec ℕ Global → Vec ℕ Global → Bool

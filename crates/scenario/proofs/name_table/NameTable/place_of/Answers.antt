@@ -1,6 +1,6 @@
 use Rattle.std.proofs.Common.{ap, ◌∙◌}
 use Rattle.scenario.specs.Names.{place_of}
-use Rattle.scenario.proofs.Taken.{place_is}
+use Rattle.scenario.proofs.Growing.{place_is}
 use Rattle.scenario.proofs.name_table.NameTable.place_of.Goals as goal
 
 pub returns-clause-place : goal.returns-clause-place

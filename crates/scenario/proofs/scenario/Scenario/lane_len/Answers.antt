@@ -3,7 +3,7 @@ use Rattle.std.proofs.lemmas.List.{length-map}
 use Rattle.scenario.specs.Plan.{Plan, lines_of}
 use Rattle.scenario.specs.Rows.{lane_plan}
 use Rattle.scenario.specs.Views.{plan_of}
-use Rattle.scenario.proofs.Stored.{lines_at, few_at}
+use Rattle.scenario.proofs.TextParts.{lines_at, few_at}
 use Rattle.scenario.proofs.scenario.Scenario.lane_len.Goals as goal
 
 pub overflow_cast-result : goal.overflow_cast-result

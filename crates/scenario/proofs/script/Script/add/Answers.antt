@@ -6,7 +6,7 @@ use Rattle.std.proofs.lemmas.List.Elements.{All-push}
 use Rattle.indexmap.proofs.CallerLemmas.{insert_entry-new}
 use Rattle.writer_calls.specs.Script.{is_row_for}
 use Rattle.scenario.specs.Keys.{row_in, IsKeyed}
-use Rattle.scenario.proofs.Tables.{found}
+use Rattle.scenario.proofs.TextParts.{found}
 use Rattle.scenario.proofs.script.Script.add.Goals as goal
 
 pub returns-clause-added : goal.returns-clause-added

@@ -2,7 +2,7 @@ use Rattle.std.proofs.Common.{ap, ◌∙◌, arith}
 use Rattle.std.specs.Prelude.{find, nat_eq}
 use Rattle.std.specs.Map.{lookup}
 use Rattle.writer_calls.specs.Script.{is_row_for}
-use Rattle.scenario.proofs.Tables.{found}
+use Rattle.scenario.proofs.TextParts.{found}
 use Rattle.scenario.proofs.script.Script.row_for.Goals as goal
 
 pub returns : goal.returns

@@ -3,7 +3,7 @@ use Rattle.std.specs.Str.{bytes_eq}
 use Rattle.std.proofs.lemmas.Iterator.{YieldsList-from_slice}
 use Rattle.std.proofs.lemmas.Iterator.Search.{find_from_yields_List}
 use Rattle.scenario.specs.Words.{name_of, word_of, words}
-use Rattle.scenario.proofs.Spelt.{four, five}
+use Rattle.scenario.proofs.TextParts.{four, five}
 use Rattle.scenario.proofs.word.Word.of.Goals as goal
 
 pub returns-in-write : goal.returns-in-write

@@ -1,8 +1,7 @@
 use Rattle.sessions.proofs.Words.{said_of, answered as course_answered, Answer as AnswerEvent, runs, Keeps, IsAt, value_of}
 use Rattle.std.proofs.Common.{sym, ◌∙◌, None, []}
-use Rattle.sessions.proofs.Disabled.{disabled_answered}
-use Rattle.sessions.proofs.Moving.{happens_moves}
-use Rattle.sessions.proofs.CourseSteps.{answer_happens, goes_on}
+use Rattle.sessions.proofs.Concluding.{disabled_answered}
+use Rattle.sessions.proofs.CourseSteps.{happens_moves, answer_happens, goes_on}
 use Rattle.sessions.proofs.sessions.Sessions.answer.Goals as goal
 
 pub returns-in-Ok-clause-called : goal.returns-in-Ok-clause-called

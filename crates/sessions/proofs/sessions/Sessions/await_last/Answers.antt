@@ -1,6 +1,6 @@
 use Rattle.sessions.proofs.Lines.{awaits}
 use Rattle.sessions.proofs.sessions.Sessions.await_last.Goals as goal
-use Rattle.sessions.proofs.Moving.{owner_at}
+use Rattle.sessions.proofs.CourseSteps.{owner_at}
 use Rattle.sessions.specs.Keeps.{IsAt, value_of}
 
 pub returns-clause-gone : goal.returns-clause-gone

@@ -1,7 +1,7 @@
 use Rattle.sessions.proofs.Words.{Course, Held, begun_as, CameTo, HasBegun, AsyncPending, value_of}
 use Rattle.std.proofs.Common.{sym, subst, true, [], None}
 use Rattle.vss_model.specs.declared.told.Told.TheVariants as told
-use Rattle.sessions.proofs.Disabled.{disabled_begun_as}
+use Rattle.sessions.proofs.Concluding.{disabled_begun_as}
 use Rattle.sessions.proofs.sessions.Sessions.begin_agenda.Goals as goal
 use Rattle.sessions.proofs.CourseSteps.{goes_on}
 use Rattle.vss_model.specs.Changes.{after_changes, goes_on as goes_on_changes}

@@ -1,7 +1,7 @@
 use Rattle.sessions.proofs.Words.{Line, SessionMove, IsAtOver, told_alone}
 use Rattle.std.proofs.Common.{sym, ◌∙◌, subst, refl}
 use Rattle.vss_model.specs.declared.told.Told.TheVariants as told
-use Rattle.sessions.proofs.Moving.{Happens, checked_same, happens_moves, line_happens, line_waits, refused_happens}
+use Rattle.sessions.proofs.CourseSteps.{Happens, checked_same, happens_moves, line_happens, line_waits, refused_happens}
 use Rattle.sessions.proofs.sessions.Sessions.call.Goals as goal
 
 pub returns-in-Blocked-clause-called : goal.returns-in-Blocked-clause-called

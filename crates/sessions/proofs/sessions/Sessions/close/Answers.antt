@@ -1,7 +1,7 @@
 use Rattle.sessions.proofs.Words.{Sessions as Requestor, released, SessionsValue, Keeps, value_of}
 use Rattle.std.proofs.Common.{[], None, ap, subst, sym}
 use Rattle.sessions.proofs.sessions.Sessions.close.Goals as goal
-use Rattle.sessions.proofs.Keeping.{closes}
+use Rattle.sessions.proofs.Concluding.{closes}
 
 pub returns-clause-closed : goal.returns-clause-closed
 returns-clause-closed c st hs kept0 =

@@ -2,7 +2,7 @@ use Rattle.sessions.proofs.Words.{metas_of, all_have_few, IsAt, value_of, takes_
 use Rattle.std.proofs.Common.{ap, ◌≡◌, ◌∙◌}
 use Rattle.sessions.proofs.Knowing.{known_few, names_not, names_component}
 use Rattle.sessions.proofs.sessions.Sessions.component.Goals as goal
-use Rattle.sessions.proofs.Moving.{owner_at}
+use Rattle.sessions.proofs.CourseSteps.{owner_at}
 
 pub add-added-requires-clause-few : goal.add-added-requires-clause-few
 add-added-requires-clause-few c = ap all_have_few (c.in_ok-metas.ensures.known c.requires.standing.state c.requires.standing.at.keeps)

@@ -1,6 +1,6 @@
 use Rattle.sessions.proofs.Lines.{disables}
 use Rattle.sessions.proofs.sessions.Sessions.disable.Goals as goal
-use Rattle.sessions.proofs.Moving.{owner_at}
+use Rattle.sessions.proofs.CourseSteps.{owner_at}
 use Rattle.sessions.specs.Keeps.{IsAt, value_of}
 
 pub returns-clause-gone : goal.returns-clause-gone

@@ -7,7 +7,7 @@ use Rattle.coordinator.specs.Coordinator.{runs}
 use Rattle.vss_model.proofs.StateForm.{failed}
 use Rattle.sessions.proofs.Lines.{ends, may_end}
 use Rattle.sessions.proofs.sessions.Sessions.end.Goals as goal
-use Rattle.sessions.proofs.Moving.{owner_at}
+use Rattle.sessions.proofs.CourseSteps.{owner_at}
 
 pub close-requires : goal.close-requires
 close-requires c = may_end c.args.self.now.requestor.session c.fail_so-moved.new.self.requestor.session (runs c.args.self.now.coordinator) c.args.lane c.requires.goes c.fail_so-moved.ensures.owner

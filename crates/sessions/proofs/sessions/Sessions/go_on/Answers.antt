@@ -1,5 +1,5 @@
 use Rattle.sessions.proofs.Words.{timed as course_timed, lost_writers, later, runs, Keeps, value_of, lost_order_if as lost_order_kept, left, order_now}
-use Rattle.sessions.proofs.Disabled.{disabled_timed}
+use Rattle.sessions.proofs.Concluding.{disabled_timed}
 use Rattle.sessions.proofs.sessions.Sessions.go_on.Goals as goal
 use Rattle.sessions.proofs.CourseSteps.{later_keeps, later_order, goes_on, time_goes}
 

@@ -1,9 +1,8 @@
 use Rattle.sessions.proofs.Words.{idle_ticks, Idle, Keeps, IsAt, value_of}
 use Rattle.std.proofs.Common.{◌≡◌, ℕ, sym, ap, ◌∙◌}
 use Rattle.std.specs.Prelude.{is_some}
-use Rattle.sessions.proofs.Moving.{happens_moves}
+use Rattle.sessions.proofs.CourseSteps.{happens_moves, idle_happens, ticks_are}
 use Rattle.sessions.proofs.sessions.Sessions.idle.Goals as goal
-use Rattle.sessions.proofs.CourseSteps.{idle_happens, ticks_are}
 
 pub returns-in-Some-clause-called : goal.returns-in-Some-clause-called
 returns-in-Some-clause-called c s =

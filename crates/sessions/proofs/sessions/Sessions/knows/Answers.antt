@@ -1,7 +1,7 @@
 use Rattle.std.proofs.Common.{ap, ◌∙◌}
 use Rattle.std.specs.Prelude.{not}
 use Rattle.sessions.specs.Keeps.{Keeps, IsOf, value_of}
-use Rattle.sessions.proofs.AgendaLines.{is_disabled_same}
+use Rattle.sessions.proofs.Lines.{is_disabled_same}
 use Rattle.sessions.proofs.Knowing.{known_is, unknown_is}
 use Rattle.sessions.proofs.sessions.Sessions.knows.Goals as goal
 

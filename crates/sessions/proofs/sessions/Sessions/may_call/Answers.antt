@@ -1,7 +1,7 @@
 use Rattle.std.proofs.Common.{sym, ap, ◌∙◌}
 use Rattle.std.specs.Prelude.{not}
 use Rattle.vss_model.specs.Acts.{is_blocked}
-use Rattle.sessions.proofs.Moving.{checked_same, not_blocked}
+use Rattle.sessions.proofs.CourseSteps.{checked_same, not_blocked}
 use Rattle.sessions.proofs.sessions.Sessions.may_call.Goals as goal
 
 pub returns-in-Go : goal.returns-in-Go

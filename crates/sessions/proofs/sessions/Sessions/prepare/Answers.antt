@@ -1,9 +1,9 @@
 use Rattle.sessions.proofs.Words.{Held, Named, all_of, known_metas}
 use Rattle.std.proofs.Common.{sym, ap, ◌∙◌, refl, true, false}
-use Rattle.sessions.proofs.AgendaLines.{then_ok}
+use Rattle.sessions.proofs.Lines.{then_ok}
 use Rattle.sessions.proofs.Knowing.{prepares, prepares_not, takes_named, takes_known, mode_at}
 use Rattle.sessions.proofs.sessions.Sessions.prepare.Goals as goal
-use Rattle.sessions.proofs.Moving.{owner_at}
+use Rattle.sessions.proofs.CourseSteps.{owner_at}
 
 pub returns-then-is_empty-clause-gone : goal.returns-then-is_empty-clause-gone
 returns-then-is_empty-clause-gone c st at = prepares_not c.args.volumes.now (owner_at c.args.lane at.at.keeps c.requires.goes) at (sym c.is_empty.ensures ∙ c.if-is_empty.true) c.alone.ensures

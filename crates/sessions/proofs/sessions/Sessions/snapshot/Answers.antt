@@ -1,10 +1,10 @@
 use Rattle.std.proofs.Common.{sym, ◌∙◌, refl}
 use Rattle.requestor.specs.declared.session_call.SessionCall.TheVariants as call
 use Rattle.coordinator.specs.Coordinator.{runs}
-use Rattle.sessions.proofs.AgendaLines.{then_ok, snapshots, snapshots_not}
+use Rattle.sessions.proofs.Lines.{then_ok, snapshots, snapshots_not}
 use Rattle.sessions.proofs.sessions.Sessions.snapshot.Goals as goal
-use Rattle.sessions.proofs.Moving.{owner_at}
-use Rattle.vss_model.proofs.GoingOn.{other_goes}
+use Rattle.sessions.proofs.CourseSteps.{owner_at}
+use Rattle.vss_model.proofs.ByEvent.{other_goes}
 
 pub begin_agenda-requires-clause-idle : goal.begin_agenda-requires-clause-idle
 begin_agenda-requires-clause-idle c = (other_goes c.args.self.now.requestor.session (runs c.args.self.now.coordinator) c.args.lane call.Snapshot c.requires.goes).quiet refl

@@ -4,7 +4,7 @@ use Rattle.requestor.specs.declared.session_call.SessionCall.TheVariants as call
 use Rattle.sessions.proofs.Lines.{at_rest, starts}
 use Rattle.sessions.proofs.Newest.{none_bare}
 use Rattle.sessions.proofs.sessions.Sessions.start.Goals as goal
-use Rattle.sessions.proofs.Moving.{owner_at}
+use Rattle.sessions.proofs.CourseSteps.{owner_at}
 
 pub returns-clause-gone : goal.returns-clause-gone
 returns-clause-gone c s st found =

@@ -1,8 +1,7 @@
 use Rattle.sessions.proofs.Words.{Provider, is_flush, IsAt, and_parts}
 use Rattle.std.proofs.Common.{sym, ◌∙◌, true, false, Some}
 use Rattle.std.specs.Prelude.{not}
-use Rattle.sessions.proofs.Moving.{happens_moves, works_same}
-use Rattle.sessions.proofs.CourseSteps.{step_happens}
+use Rattle.sessions.proofs.CourseSteps.{happens_moves, works_same, step_happens}
 use Rattle.sessions.proofs.sessions.Sessions.step.Goals as goal
 
 pub returns-then-fails_at-clause-moves : goal.returns-then-fails_at-clause-moves

@@ -2,7 +2,7 @@ use Rattle.sessions.proofs.Words.{stepped as course_stepped, in_progress, runs, 
 use Rattle.std.proofs.Common.{subst, sym, true, false, Some, None, []}
 use Rattle.vss_model.specs.declared.told.Told.TheVariants as told
 use Rattle.vss_model.proofs.Changes.{steps_are}
-use Rattle.sessions.proofs.Disabled.{disabled_stepped}
+use Rattle.sessions.proofs.Concluding.{disabled_stepped}
 use Rattle.sessions.proofs.sessions.Sessions.step_fails.Goals as goal
 use Rattle.sessions.proofs.CourseSteps.{goes_on}
 

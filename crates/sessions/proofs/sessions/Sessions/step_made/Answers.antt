@@ -1,7 +1,7 @@
 use Rattle.sessions.proofs.Words.{stepped as course_stepped, runs, Keeps, value_of}
 use Rattle.std.proofs.Common.{◌≡◌, sym, ◌∙◌, subst, true, Some, None, []}
 use Rattle.vss_model.proofs.Changes.{made_are}
-use Rattle.sessions.proofs.Disabled.{disabled_stepped}
+use Rattle.sessions.proofs.Concluding.{disabled_stepped}
 use Rattle.sessions.proofs.sessions.Sessions.step_made.Goals as goal
 use Rattle.sessions.proofs.CourseSteps.{goes_on, step_goes}
 

@@ -1,7 +1,6 @@
 use Rattle.sessions.proofs.Words.{Tick, Line, IsAt}
-use Rattle.sessions.proofs.Moving.{happens_moves}
+use Rattle.sessions.proofs.CourseSteps.{happens_moves, tick_happens}
 use Rattle.sessions.proofs.sessions.Sessions.time.Goals as goal
-use Rattle.sessions.proofs.CourseSteps.{tick_happens}
 
 pub returns-clause-moves : goal.returns-clause-moves
 returns-clause-moves c s lane = happens_moves (IsAt c.args.self.now s) s c.go_on.new.self (Line lane (Tick c.args.ticks)) c.go_on.result

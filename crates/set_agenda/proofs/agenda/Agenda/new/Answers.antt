@@ -1,4 +1,4 @@
-use Rattle.set_agenda.proofs.Beginnings.{begins}
+use Rattle.set_agenda.proofs.Closings.{begins}
 use Rattle.set_agenda.proofs.agenda.Agenda.new.Goals as goal
 
 pub returns : goal.returns

@@ -1,6 +1,6 @@
 use Rattle.std.proofs.Common.{ap, sym, ◌∙◌}
 use Rattle.set_agenda.specs.Agenda.{open_place}
-use Rattle.set_agenda.proofs.Cursors.{open-here}
+use Rattle.set_agenda.proofs.Closings.{open-here}
 use Rattle.set_agenda.proofs.agenda.Agenda.place.Goals as goal
 
 pub returns-in-Some : goal.returns-in-Some

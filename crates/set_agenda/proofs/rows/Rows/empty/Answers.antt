@@ -1,4 +1,4 @@
-use Rattle.set_agenda.proofs.Beginnings.{rows-empty}
+use Rattle.set_agenda.proofs.Closings.{rows-empty}
 use Rattle.set_agenda.proofs.rows.Rows.empty.Goals as goal
 
 pub returns : goal.returns

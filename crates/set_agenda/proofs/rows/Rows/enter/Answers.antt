@@ -1,5 +1,5 @@
 use Rattle.std.proofs.Common.{refl, ◌∙◌, None}
-use Rattle.set_agenda.proofs.Beginnings.{row_in}
+use Rattle.set_agenda.proofs.Closings.{row_in}
 use Rattle.set_agenda.proofs.rows.Rows.enter.Goals as goal
 
 pub returns : goal.returns

@@ -1,6 +1,6 @@
 use Rattle.std.proofs.Common.{rules, ap, ◌∙◌}
 use Rattle.turn_cell.specs.Steps.{known}
-use Rattle.turn_cell.proofs.Drawing.{draws}
+use Rattle.turn_cell.proofs.SeatSteps.{draws}
 use Rattle.turn_cell.proofs.Calling.{holding, sees, idle_still, same_number}
 use Rattle.turn_cell.proofs.turn.Turn.call.Goals as goal
 

@@ -1,7 +1,7 @@
 use Rattle.std.proofs.Common.{rules, ◌≡◌, ◌∙◌, length, vec_len}
 use lib.ListN.{length-map}
 use Rattle.turn_cell.specs.Callers.{standing}
-use Rattle.turn_cell.proofs.Closing.{closes_with}
+use Rattle.turn_cell.proofs.Callers.{closes_with}
 use Rattle.turn_cell.proofs.turn.Turn.close.Goals as goal
 
 pub returns : goal.returns

@@ -1,5 +1,5 @@
 use Rattle.std.proofs.Common.{rules, ap}
-use Rattle.turn_cell.proofs.Looking.{looks}
+use Rattle.turn_cell.proofs.SeatSteps.{looks}
 use Rattle.turn_cell.proofs.turn.Turn.front.Goals as goal
 
 pub load-requires : goal.load-requires

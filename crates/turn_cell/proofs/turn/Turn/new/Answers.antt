@@ -1,6 +1,6 @@
 use Rattle.std.proofs.Common.{rules, arith}
 use Rattle.std.proofs.lemmas.Grind.{common_steps}
-use Rattle.turn_cell.proofs.Opening.{opens_with}
+use Rattle.turn_cell.proofs.Callers.{opens_with}
 use Rattle.turn_cell.proofs.turn.Turn.new.Goals as goal
 
 pub new-requires : goal.new-requires

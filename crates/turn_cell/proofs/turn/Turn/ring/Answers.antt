@@ -1,4 +1,4 @@
-use Rattle.turn_cell.proofs.Ringing.{rings}
+use Rattle.turn_cell.proofs.SeatSteps.{rings}
 use Rattle.turn_cell.proofs.turn.Turn.ring.Goals as goal
 
 pub fetch_add-requires : goal.fetch_add-requires

@@ -1,7 +1,7 @@
 use Rattle.std.proofs.Common.{rules, ◌+◌, ◌%◌, ◌^◌, ℕ, ap, ◌∙◌}
 use Rattle.turn_cell.specs.Rule.{is_out}
-use Rattle.turn_cell.proofs.Serving.{serves_carried}
-use Rattle.turn_cell.proofs.Words.{next_word}
+use Rattle.turn_cell.proofs.SeatSteps.{serves_carried}
+use Rattle.turn_cell.proofs.Lists.{next_word}
 use Rattle.turn_cell.proofs.turn.Turn.serve.Goals as goal
 
 pub fetch_add-served-requires : goal.fetch_add-served-requires

@@ -1,5 +1,5 @@
 use Rattle.std.proofs.Common.{rules, ◌∙◌}
-use Rattle.turn_cell.proofs.Awaiting.{awaits}
+use Rattle.turn_cell.proofs.SeatSteps.{awaits}
 use Rattle.turn_cell.proofs.Calling.{waits_still, takes_still}
 use Rattle.turn_cell.proofs.turn.Turn.wait.Goals as goal
 

@@ -1,5 +1,5 @@
 use Rattle.std.proofs.Common.{ℕ, suc, ◌<◌, List, [], ◌∷◌, arith, slice_index}
-use Rattle.vss_catalog.specs.Allowed.{AreBytes}
+use Rattle.vss_catalog.specs.Entries.{AreBytes}
 use Rattle.vss_catalog.proofs.Again.{catalog-allowed}
 use Rattle.vss_catalog.proofs.catalog.Catalog.decode.Goals as goal
 

@@ -1,8 +1,7 @@
 use Rattle.std.proofs.Common.{ℕ, ◌≡◌, ◌++◌, ◌∷◌, [], ◌∙◌, length, map, ap, sym, subst, arith}
 use Rattle.std.specs.List.{range_with_len}
 use Rattle.std.proofs.lemmas.List.{length-append}
-use Rattle.vss_catalog.specs.Allowed.{IsCatalog}
-use Rattle.vss_catalog.specs.Group.{entries_of, entry_at}
+use Rattle.vss_catalog.specs.Entries.{IsCatalog, entries_of, entry_at}
 use Rattle.vss_catalog.proofs.Groups.{as_many, each_name, entries-next, is_entry, catalog_allowed}
 use Rattle.vss_catalog.proofs.catalog.Catalog.of_group.Goals as goal
 

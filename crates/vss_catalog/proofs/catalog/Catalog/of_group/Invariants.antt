@@ -1,6 +1,6 @@
 use Rattle.std.proofs.Common.{◌≡◌, length, map}
 use Rattle.std.specs.List.{range_with_len}
-use Rattle.vss_catalog.specs.Group.{entry_at}
+use Rattle.vss_catalog.specs.Entries.{entry_at}
 use Rattle.vss_catalog.proofs.catalog.Catalog.of_group.Given as goal
 
 -- the entries of the volumes so far

@@ -3,7 +3,7 @@ use Rattle.std.specs.Str.{bytes_eq}
 use Rattle.std.proofs.lemmas.Iterator.{YieldsList-from_slice}
 use Rattle.std.proofs.lemmas.Iterator.Search.{find_from_yields_List}
 use Rattle.vss_names.specs.ComponentType.{name_of, component_type_of_name, component_types}
-use Rattle.vss_names.proofs.ComponentTypeRows.{IsLookUp-component_type_of_name}
+use Rattle.vss_names.proofs.LookUps.{IsLookUp-component_type_of_name}
 use Rattle.vss_names.proofs.component_type.ComponentType.of_name.Goals as goal
 
 pub returns : goal.returns

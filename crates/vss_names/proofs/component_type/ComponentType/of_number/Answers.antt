@@ -2,7 +2,7 @@ use Rattle.std.proofs.Common.{rules, tests, ◌≡◌, ◌∙◌, nat_eq}
 use Rattle.std.proofs.lemmas.Iterator.{YieldsList-from_slice}
 use Rattle.std.proofs.lemmas.Iterator.Search.{find_from_yields_List}
 use Rattle.vss_names.specs.ComponentType.{number_of, component_type_of_number, component_types}
-use Rattle.vss_names.proofs.ComponentTypeRows.{IsLookUp-component_type_of_number}
+use Rattle.vss_names.proofs.LookUps.{IsLookUp-component_type_of_number}
 use Rattle.vss_names.proofs.component_type.ComponentType.of_number.Goals as goal
 
 pub returns : goal.returns

@@ -3,7 +3,7 @@ use Rattle.std.specs.Str.{bytes_eq}
 use Rattle.std.proofs.lemmas.Iterator.{YieldsList-from_slice}
 use Rattle.std.proofs.lemmas.Iterator.Search.{find_from_yields_List}
 use Rattle.vss_names.specs.Context.{name_of, context_of_name, contexts}
-use Rattle.vss_names.proofs.ContextRows.{IsLookUp-context_of_name}
+use Rattle.vss_names.proofs.LookUps.{IsLookUp-context_of_name}
 use Rattle.vss_names.proofs.context.Context.of_name.Goals as goal
 
 pub returns : goal.returns

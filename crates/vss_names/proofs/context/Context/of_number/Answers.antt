@@ -2,7 +2,7 @@ use Rattle.std.proofs.Common.{rules, tests, ◌≡◌, ◌∙◌, nat_eq}
 use Rattle.std.proofs.lemmas.Iterator.{YieldsList-from_slice}
 use Rattle.std.proofs.lemmas.Iterator.Search.{find_from_yields_List}
 use Rattle.vss_names.specs.Context.{number_of, context_of_number, contexts}
-use Rattle.vss_names.proofs.ContextRows.{IsLookUp-context_of_number}
+use Rattle.vss_names.proofs.LookUps.{IsLookUp-context_of_number}
 use Rattle.vss_names.proofs.context.Context.of_number.Goals as goal
 
 pub returns : goal.returns

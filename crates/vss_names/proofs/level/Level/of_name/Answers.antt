@@ -3,7 +3,7 @@ use Rattle.std.specs.Str.{bytes_eq}
 use Rattle.std.proofs.lemmas.Iterator.{YieldsList-from_slice}
 use Rattle.std.proofs.lemmas.Iterator.Search.{find_from_yields_List}
 use Rattle.vss_names.specs.Level.{name_of, level_of_name, levels}
-use Rattle.vss_names.proofs.LevelRows.{IsLookUp-level_of_name}
+use Rattle.vss_names.proofs.LookUps.{IsLookUp-level_of_name}
 use Rattle.vss_names.proofs.level.Level.of_name.Goals as goal
 
 pub returns : goal.returns

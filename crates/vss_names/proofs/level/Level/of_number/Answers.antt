@@ -2,7 +2,7 @@ use Rattle.std.proofs.Common.{rules, tests, ◌≡◌, ◌∙◌, nat_eq}
 use Rattle.std.proofs.lemmas.Iterator.{YieldsList-from_slice}
 use Rattle.std.proofs.lemmas.Iterator.Search.{find_from_yields_List}
 use Rattle.vss_names.specs.Level.{number_of, level_of_number, levels}
-use Rattle.vss_names.proofs.LevelRows.{IsLookUp-level_of_number}
+use Rattle.vss_names.proofs.LookUps.{IsLookUp-level_of_number}
 use Rattle.vss_names.proofs.level.Level.of_number.Goals as goal
 
 pub returns : goal.returns

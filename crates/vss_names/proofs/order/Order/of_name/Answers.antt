@@ -3,7 +3,7 @@ use Rattle.std.specs.Str.{bytes_eq}
 use Rattle.std.proofs.lemmas.Iterator.{YieldsList-from_slice}
 use Rattle.std.proofs.lemmas.Iterator.Search.{find_from_yields_List}
 use Rattle.vss_names.specs.Order.{name_of, order_of_name, orders}
-use Rattle.vss_names.proofs.OrderRows.{IsLookUp-order_of_name}
+use Rattle.vss_names.proofs.LookUps.{IsLookUp-order_of_name}
 use Rattle.vss_names.proofs.order.Order.of_name.Goals as goal
 
 pub returns : goal.returns

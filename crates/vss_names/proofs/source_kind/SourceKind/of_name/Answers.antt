@@ -3,7 +3,7 @@ use Rattle.std.specs.Str.{bytes_eq}
 use Rattle.std.proofs.lemmas.Iterator.{YieldsList-from_slice}
 use Rattle.std.proofs.lemmas.Iterator.Search.{find_from_yields_List}
 use Rattle.vss_names.specs.SourceKind.{name_of, source_kind_of_name, source_kinds}
-use Rattle.vss_names.proofs.SourceKindRows.{IsLookUp-source_kind_of_name}
+use Rattle.vss_names.proofs.LookUps.{IsLookUp-source_kind_of_name}
 use Rattle.vss_names.proofs.source_kind.SourceKind.of_name.Goals as goal
 
 pub returns : goal.returns

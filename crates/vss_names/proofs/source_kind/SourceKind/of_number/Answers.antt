@@ -2,7 +2,7 @@ use Rattle.std.proofs.Common.{rules, tests, ◌≡◌, ◌∙◌, nat_eq}
 use Rattle.std.proofs.lemmas.Iterator.{YieldsList-from_slice}
 use Rattle.std.proofs.lemmas.Iterator.Search.{find_from_yields_List}
 use Rattle.vss_names.specs.SourceKind.{number_of, source_kind_of_number, source_kinds}
-use Rattle.vss_names.proofs.SourceKindRows.{IsLookUp-source_kind_of_number}
+use Rattle.vss_names.proofs.LookUps.{IsLookUp-source_kind_of_number}
 use Rattle.vss_names.proofs.source_kind.SourceKind.of_number.Goals as goal
 
 pub returns : goal.returns

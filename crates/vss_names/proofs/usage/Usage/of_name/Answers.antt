@@ -3,7 +3,7 @@ use Rattle.std.specs.Str.{bytes_eq}
 use Rattle.std.proofs.lemmas.Iterator.{YieldsList-from_slice}
 use Rattle.std.proofs.lemmas.Iterator.Search.{find_from_yields_List}
 use Rattle.vss_names.specs.Usage.{name_of, usage_of_name, usages}
-use Rattle.vss_names.proofs.UsageRows.{IsLookUp-usage_of_name}
+use Rattle.vss_names.proofs.LookUps.{IsLookUp-usage_of_name}
 use Rattle.vss_names.proofs.usage.Usage.of_name.Goals as goal
 
 pub returns : goal.returns

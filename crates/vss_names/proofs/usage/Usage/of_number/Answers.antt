@@ -2,7 +2,7 @@ use Rattle.std.proofs.Common.{rules, tests, ◌≡◌, ◌∙◌, nat_eq}
 use Rattle.std.proofs.lemmas.Iterator.{YieldsList-from_slice}
 use Rattle.std.proofs.lemmas.Iterator.Search.{find_from_yields_List}
 use Rattle.vss_names.specs.Usage.{number_of, usage_of_number, usages}
-use Rattle.vss_names.proofs.UsageRows.{IsLookUp-usage_of_number}
+use Rattle.vss_names.proofs.LookUps.{IsLookUp-usage_of_number}
 use Rattle.vss_names.proofs.usage.Usage.of_number.Goals as goal
 
 pub returns : goal.returns

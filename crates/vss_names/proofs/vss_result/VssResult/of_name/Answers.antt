@@ -3,7 +3,7 @@ use Rattle.std.specs.Str.{bytes_eq}
 use Rattle.std.proofs.lemmas.Iterator.{YieldsList-from_slice}
 use Rattle.std.proofs.lemmas.Iterator.Search.{find_from_yields_List}
 use Rattle.vss_names.specs.VssResult.{name_of, vss_result_of_name, vss_results}
-use Rattle.vss_names.proofs.VssResultRows.{IsLookUp-vss_result_of_name}
+use Rattle.vss_names.proofs.LookUps.{IsLookUp-vss_result_of_name}
 use Rattle.vss_names.proofs.vss_result.VssResult.of_name.Goals as goal
 
 pub returns : goal.returns

@@ -3,7 +3,7 @@ use Rattle.std.specs.Str.{bytes_eq}
 use Rattle.std.proofs.lemmas.Iterator.{YieldsList-from_slice}
 use Rattle.std.proofs.lemmas.Iterator.Search.{find_from_yields_List}
 use Rattle.vss_names.specs.WriterError.{name_of, error_of_name, errors}
-use Rattle.vss_names.proofs.WriterErrorRows.{IsLookUp-error_of_name}
+use Rattle.vss_names.proofs.LookUps.{IsLookUp-error_of_name}
 use Rattle.vss_names.proofs.writer_error.WriterError.of_name.Goals as goal
 
 pub returns : goal.returns

@@ -2,7 +2,7 @@ use Rattle.std.proofs.Common.{rules, tests, ◌≡◌, ◌∙◌, nat_eq}
 use Rattle.std.proofs.lemmas.Iterator.{YieldsList-from_slice}
 use Rattle.std.proofs.lemmas.Iterator.Search.{find_from_yields_List}
 use Rattle.vss_names.specs.WriterError.{number_of, error_of_number, errors}
-use Rattle.vss_names.proofs.WriterErrorRows.{IsLookUp-error_of_number}
+use Rattle.vss_names.proofs.LookUps.{IsLookUp-error_of_number}
 use Rattle.vss_names.proofs.writer_error.WriterError.of_number.Goals as goal
 
 pub returns : goal.returns

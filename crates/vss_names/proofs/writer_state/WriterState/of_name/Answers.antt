@@ -3,7 +3,7 @@ use Rattle.std.specs.Str.{bytes_eq}
 use Rattle.std.proofs.lemmas.Iterator.{YieldsList-from_slice}
 use Rattle.std.proofs.lemmas.Iterator.Search.{find_from_yields_List}
 use Rattle.vss_names.specs.WriterState.{name_of, state_of_name, states}
-use Rattle.vss_names.proofs.WriterStateRows.{IsLookUp-state_of_name}
+use Rattle.vss_names.proofs.LookUps.{IsLookUp-state_of_name}
 use Rattle.vss_names.proofs.writer_state.WriterState.of_name.Goals as goal
 
 pub returns : goal.returns

@@ -2,7 +2,7 @@ use Rattle.std.proofs.Common.{rules, tests, ◌≡◌, ◌∙◌, nat_eq}
 use Rattle.std.proofs.lemmas.Iterator.{YieldsList-from_slice}
 use Rattle.std.proofs.lemmas.Iterator.Search.{find_from_yields_List}
 use Rattle.vss_names.specs.WriterState.{number_of, state_of_number, states}
-use Rattle.vss_names.proofs.WriterStateRows.{IsLookUp-state_of_number}
+use Rattle.vss_names.proofs.LookUps.{IsLookUp-state_of_number}
 use Rattle.vss_names.proofs.writer_state.WriterState.of_number.Goals as goal
 
 pub returns : goal.returns

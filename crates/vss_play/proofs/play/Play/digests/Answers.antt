@@ -1,7 +1,6 @@
 use Rattle.std.proofs.Common.{refl}
-use Rattle.vss_play.proofs.Areas.{stands_by}
+use Rattle.vss_play.proofs.Areas.{stands_by, digests_told}
 use Rattle.vss_play.proofs.ClosingLines.{play_ending}
-use Rattle.vss_play.proofs.Digesting.{digests_told}
 use Rattle.vss_play.proofs.Finishing.{play_kept}
 use Rattle.vss_play.proofs.play.Play.digests.Goals as goal
 

@@ -1,5 +1,5 @@
 use Rattle.std.proofs.Common.{◌∙◌, ap}
-use Rattle.vss_play.proofs.GivingBack.{kept_as}
+use Rattle.vss_play.proofs.FaultMarks.{kept_as}
 use Rattle.vss_play.proofs.play.Play.give_back.Goals as goal
 
 pub returns-clause-kept : goal.returns-clause-kept

@@ -2,8 +2,7 @@ use Rattle.std.proofs.Common.{◌∙◌, ap, sym, subst}
 use Rattle.scenario.specs.Plan.{Plan}
 use Rattle.vss_play.specs.Running.{AreInPlan, bytes_for}
 use Rattle.vss_play.specs.Serving.{ServiceValue, actor_by}
-use Rattle.vss_play.proofs.FewEvicted.{room_for}
-use Rattle.vss_play.proofs.Serving.{numbers_of}
+use Rattle.vss_play.proofs.Serving.{room_for, numbers_of}
 use Rattle.vss_play.proofs.service.Service.step_into.Goals as goal
 
 pub add_lines-requires-clause-numbers : goal.add_lines-requires-clause-numbers

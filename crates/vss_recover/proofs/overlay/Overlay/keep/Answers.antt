@@ -1,7 +1,7 @@
 use Rattle.std.proofs.Common.{◌∙◌, ap, map, rules}
 use Rattle.std.proofs.lemmas.Fn.{filter_same}
 use Rattle.diff_area.specs.AreaValue.{AreaValue}
-use Rattle.diff_area.specs.Records.{is_free}
+use Rattle.diff_area.specs.Format.{is_free}
 use Rattle.diff_map.specs.declared.entry.Entry.{Entry}
 use Rattle.cow_volume.specs.Calls.{is_among}
 use Rattle.vss_recover.proofs.UsedSlots.{overlay_kept}

@@ -1,7 +1,7 @@
 use Rattle.std.proofs.Common.{◌∙◌, Bool, cond, ap, arith}
 use Rattle.std.specs.List.{insert}
 use Rattle.std.proofs.lemmas.Option.{slice_get_within}
-use Rattle.diff_area.specs.Records.{free}
+use Rattle.diff_area.specs.Format.{free}
 use Rattle.cow_volume.specs.StandsFor.{record_of}
 use Rattle.cow_volume.proofs.Merging.{has_found}
 use Rattle.cow_volume.proofs.Ties.{free_slot_is, taken_lowest}

@@ -1,7 +1,7 @@
 use Rattle.std.proofs.Common.{refl}
 use Rattle.std.proofs.lemmas.Option.{slice_get_within}
 use Rattle.cow_volume.specs.StandsFor.{record_of}
-use Rattle.vss_recover.proofs.Slots.{put_over}
+use Rattle.vss_recover.proofs.Overlays.{put_over}
 use Rattle.vss_recover.proofs.overlay.Overlay.put.Goals as goal
 
 pub write_slot-requires-clause-slot : goal.write_slot-requires-clause-slot

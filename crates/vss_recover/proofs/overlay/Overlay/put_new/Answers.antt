@@ -2,9 +2,9 @@ use Rattle.std.proofs.Common.{◌≡◌, ap, map, refl, Some}
 use Rattle.std.specs.Prelude.{slice_get}
 use Rattle.std.proofs.lemmas.Option.{slice_get_within}
 use Rattle.slot_pool.specs.Slots.{IsLowestFree, free_count}
-use Rattle.diff_area.specs.Records.{free, is_free}
+use Rattle.diff_area.specs.Format.{free, is_free}
 use Rattle.cow_volume.proofs.Ties.{free_slot_is, full_if}
-use Rattle.vss_recover.proofs.Slots.{no_room, not_put, put_first, room_if_free}
+use Rattle.vss_recover.proofs.Overlays.{no_room, not_put, put_first, room_if_free}
 use Rattle.vss_recover.proofs.overlay.Overlay.put_new.Goals as goal
 
 pub write_slot-requires-clause-slot : goal.write_slot-requires-clause-slot

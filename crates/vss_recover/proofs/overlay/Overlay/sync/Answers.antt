@@ -1,5 +1,5 @@
 use Rattle.std.proofs.lemmas.Result.{err_from_is_err_and}
-use Rattle.vss_recover.proofs.Syncing.{slots_all, slots_part, slots_further, flushed_table}
+use Rattle.vss_recover.proofs.InParts.{slots_all, slots_part, slots_further, flushed_table}
 use Rattle.vss_recover.proofs.overlay.Overlay.sync.Goals as goal
 
 pub returns-in_err-sync-clause-kept : goal.returns-in_err-sync-clause-kept

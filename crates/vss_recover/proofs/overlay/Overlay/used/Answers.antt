@@ -1,6 +1,6 @@
 use Rattle.std.proofs.Common.{◌≡◌, ap, length, arith}
 use Rattle.std.proofs.lemmas.List.{length-map}
-use Rattle.diff_area.specs.Records.{is_free, used_in}
+use Rattle.diff_area.specs.Format.{is_free, used_in}
 use Rattle.slot_pool.specs.Slots.{free_count}
 use Rattle.cow_volume.proofs.Ties.{free_and_used}
 use Rattle.vss_recover.proofs.overlay.Overlay.used.Goals as goal

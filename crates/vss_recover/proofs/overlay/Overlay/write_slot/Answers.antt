@@ -1,7 +1,7 @@
 use Rattle.std.proofs.Common.{◌∙◌, ap, length, refl}
-use Rattle.diff_area.specs.Places.{place_of_slot}
+use Rattle.diff_area.specs.Format.{place_of_slot}
 use Rattle.cow_volume.specs.Steps.{put as put_bytes}
-use Rattle.vss_recover.proofs.Slots.{written_to, not_written}
+use Rattle.vss_recover.proofs.Overlays.{written_to, not_written}
 use Rattle.vss_recover.proofs.overlay.Overlay.write_slot.Goals as goal
 use Rattle.vss_recover.proofs.overlay.Overlay.write_slot.Goals.{in-Ok, in-Err}
 

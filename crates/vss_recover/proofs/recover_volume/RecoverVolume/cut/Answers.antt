@@ -1,5 +1,5 @@
 use Rattle.std.proofs.Common.{refl}
-use Rattle.vss_recover.proofs.Values.{value_of}
+use Rattle.vss_recover.proofs.InParts.{value_of}
 use Rattle.vss_recover.proofs.Taken.{cut_step}
 use Rattle.vss_recover.proofs.recover_volume.RecoverVolume.cut.Goals as goal
 

@@ -1,8 +1,8 @@
 use Rattle.std.proofs.Common.{sym, subst}
 use Rattle.std.specs.Prelude.{Ok}
-use Rattle.cow_volume.specs.GroupValue.{GroupValue}
+use Rattle.cow_volume.specs.StandsFor.{GroupValue}
 use Rattle.cow_volume.specs.OneVolume.{IsOneDropped}
-use Rattle.vss_recover.proofs.Values.{value_of, settled_in_all}
+use Rattle.vss_recover.proofs.InParts.{value_of, settled_in_all}
 use Rattle.vss_recover.proofs.Taken.{dropped_step}
 use Rattle.vss_recover.proofs.recover_volume.RecoverVolume.drop_image.Goals as goal
 

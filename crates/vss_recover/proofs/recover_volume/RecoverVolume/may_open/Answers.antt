@@ -2,7 +2,7 @@ use Rattle.std.proofs.Common.{◌≡◌, ◌<◌, ◌∙◌, true, ap, sym, subs
 use Rattle.cow_volume.specs.Calls.{is_among}
 use Rattle.cow_volume.specs.OneVolume.{image_sets}
 use Rattle.vss_recover.specs.Steps.{IsNewest}
-use Rattle.vss_recover.proofs.Glue.{newest_there}
+use Rattle.vss_recover.proofs.InParts.{newest_there}
 use Rattle.vss_recover.proofs.recover_volume.RecoverVolume.may_open.Goals as goal
 
 pub returns-then-newest-set-clause-cause : goal.returns-then-newest-set-clause-cause

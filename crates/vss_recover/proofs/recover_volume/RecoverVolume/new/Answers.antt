@@ -4,7 +4,7 @@ use Rattle.write_history.specs.History.{History}
 use Rattle.cow_volume.specs.OneVolume.{StandsForOne}
 use Rattle.vss_recover.specs.Recoveries.{unrecovered}
 use Rattle.vss_recover.specs.RecoverValue.{StandsFor}
-use Rattle.vss_recover.specs.TakingUp.{taken_up}
+use Rattle.vss_recover.specs.Syncing.{taken_up}
 use Rattle.vss_recover.proofs.Taken.{new_stands}
 use Rattle.vss_recover.proofs.TakenUp.{of_value}
 use Rattle.vss_recover.proofs.recover_volume.RecoverVolume.new.Goals as goal

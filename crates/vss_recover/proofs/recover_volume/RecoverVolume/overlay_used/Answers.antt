@@ -1,5 +1,5 @@
 use Rattle.std.proofs.Common.{◌∙◌}
-use Rattle.vss_recover.proofs.Values.{value_of}
+use Rattle.vss_recover.proofs.InParts.{value_of}
 use Rattle.vss_recover.proofs.Taken.{used_pairs}
 use Rattle.vss_recover.proofs.recover_volume.RecoverVolume.overlay_used.Goals as goal
 

@@ -1,7 +1,7 @@
 use Rattle.std.proofs.Common.{◌≡◌, ◌∙◌, None, Some, ap, sym, subst, rules}
 use Rattle.vss_recover.specs.Recoveries.{closed}
 use Rattle.vss_recover.specs.RecoverValue.{RecoverValue, StandsFor}
-use Rattle.vss_recover.proofs.Values.{value_of}
+use Rattle.vss_recover.proofs.InParts.{value_of}
 use Rattle.vss_recover.proofs.Taken.{closed_step}
 use Rattle.vss_recover.proofs.recover_volume.RecoverVolume.post_final.Goals as goal
 

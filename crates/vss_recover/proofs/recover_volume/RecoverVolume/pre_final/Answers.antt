@@ -1,10 +1,10 @@
 use Rattle.std.proofs.Common.{refl, sym, subst, List, Some}
 use Rattle.std.proofs.lemmas.Result.{err_from_is_err_and}
 use Rattle.vss_recover.specs.declared.claim.Claim.{Claim}
-use Rattle.vss_recover.specs.Claims.{AreWithin}
+use Rattle.vss_recover.specs.Steps.{AreWithin}
 use Rattle.vss_recover.specs.Calls.{IsStep}
 use Rattle.vss_recover.specs.Steps.Step.{Opened}
-use Rattle.vss_recover.proofs.Values.{value_of}
+use Rattle.vss_recover.proofs.InParts.{value_of}
 use Rattle.vss_recover.proofs.Taken.{opened_step}
 use Rattle.vss_recover.proofs.recover_volume.RecoverVolume.pre_final.Goals as goal
 

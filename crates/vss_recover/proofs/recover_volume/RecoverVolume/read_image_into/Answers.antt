@@ -1,6 +1,5 @@
 use Rattle.std.proofs.Common.{refl, arith}
-use Rattle.vss_recover.proofs.Values.{value_of}
-use Rattle.vss_recover.proofs.Glue.{blocks_kept, below_if_ok}
+use Rattle.vss_recover.proofs.InParts.{value_of, blocks_kept, below_if_ok}
 use Rattle.vss_recover.proofs.Standing.{quiet_stands}
 use Rattle.vss_recover.proofs.Taken.{shown_slot}
 use Rattle.vss_recover.proofs.recover_volume.RecoverVolume.read_image_into.Goals as goal

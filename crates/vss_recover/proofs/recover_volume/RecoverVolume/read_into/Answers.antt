@@ -1,6 +1,5 @@
 use Rattle.std.proofs.Common.{refl}
-use Rattle.vss_recover.proofs.Values.{value_of}
-use Rattle.vss_recover.proofs.Glue.{blocks_kept}
+use Rattle.vss_recover.proofs.InParts.{value_of, blocks_kept}
 use Rattle.vss_recover.proofs.Standing.{quiet_stands}
 use Rattle.vss_recover.proofs.recover_volume.RecoverVolume.read_into.Goals as goal
 

@@ -1,9 +1,8 @@
 use Rattle.std.proofs.Common.{◌≡◌, ◌<◌, Some, arith, rules, refl}
-use Rattle.block_data.specs.PayloadBytes.{payload_bytes}
-use Rattle.vss_recover.proofs.Values.{value_of}
+use Rattle.block_data.specs.BlockBytes.{payload_bytes}
+use Rattle.vss_recover.proofs.InParts.{value_of, recovered_if_ok}
 use Rattle.cow_volume.specs.OneVolume.{blocks_of}
-use Rattle.vss_recover.specs.Claims.{owner_of}
-use Rattle.vss_recover.proofs.Glue.{recovered_if_ok}
+use Rattle.vss_recover.specs.Steps.{owner_of}
 use Rattle.vss_recover.proofs.Taken.{room_is}
 use Rattle.vss_recover.proofs.recover_volume.RecoverVolume.recover_write.Goals as goal
 

@@ -5,9 +5,8 @@ use Rattle.cow_volume.specs.OneVolume.{StandsForOne, blocks_of, image_sets}
 use Rattle.cow_volume.specs.Resuming.{AllHaveImages}
 use Rattle.vss_recover.specs.Recoveries.{IsOfImages, Recovering}
 use Rattle.vss_recover.specs.RecoverValue.{IsOverlay, RecoverValue, StandsFor}
-use Rattle.vss_recover.specs.TakingUp.{HasCopiesOf, taken_up, unopened}
-use Rattle.vss_recover.proofs.Loaded.{loaded_stands}
-use Rattle.vss_recover.proofs.TakenUp.{made_stand, parts_stand}
+use Rattle.vss_recover.specs.Syncing.{HasCopiesOf, taken_up, unopened}
+use Rattle.vss_recover.proofs.TakenUp.{loaded_stands, made_stand, parts_stand}
 use Rattle.vss_recover.proofs.recover_volume.RecoverVolume.resume.Goals as goal
 
 pub returns-in-Ok-without_window-clause-untold : goal.returns-in-Ok-without_window-clause-untold

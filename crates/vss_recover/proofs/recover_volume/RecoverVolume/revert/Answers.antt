@@ -1,14 +1,13 @@
 use Rattle.std.proofs.Common.{◌≡◌, sym, subst, arith}
 use Rattle.std.specs.Prelude.{Err}
-use Rattle.cow_volume.specs.GroupValue.{GroupValue}
+use Rattle.cow_volume.specs.StandsFor.{GroupValue}
 use Rattle.cow_volume.specs.OneVolume.{IsOneReverted, IsOneRevert}
 use Rattle.vss_recover.specs.declared.recover_revert.RecoverRevert.TheVariants.{Other}
 use Rattle.vss_recover.specs.OverlayCalls.{count_in}
 use Rattle.vss_recover.specs.Calls.{IsRevertStep}
 use Rattle.vss_recover.specs.RecoverValue.{RecoverValue}
-use Rattle.vss_recover.proofs.Values.{value_of, settled_in_all}
+use Rattle.vss_recover.proofs.InParts.{value_of, settled_in_all, revert_fault_step}
 use Rattle.vss_recover.proofs.Taken.{blocks_counted, reverted_step}
-use Rattle.vss_recover.proofs.Glue.{revert_fault_step}
 use Rattle.vss_recover.proofs.recover_volume.RecoverVolume.revert.Goals as goal
 
 pub returns-in-Ok-clause-step : goal.returns-in-Ok-clause-step

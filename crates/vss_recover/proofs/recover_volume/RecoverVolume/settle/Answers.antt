@@ -1,7 +1,7 @@
 use Rattle.std.proofs.Common.{rules}
 use Rattle.std.proofs.lemmas.Fn.{filter_same}
 use Rattle.cow_volume.specs.Calls.{is_among}
-use Rattle.vss_recover.proofs.Glue.{settled_is}
+use Rattle.vss_recover.proofs.InParts.{settled_is}
 use Rattle.vss_recover.proofs.recover_volume.RecoverVolume.settle.Goals as goal
 
 pub returns-clause-settled : goal.returns-clause-settled

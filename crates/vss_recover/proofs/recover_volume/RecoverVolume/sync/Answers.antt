@@ -1,6 +1,5 @@
 use Rattle.std.proofs.Common.{refl}
-use Rattle.vss_recover.proofs.Values.{value_of}
-use Rattle.vss_recover.proofs.Syncing.{synced_stands, synced_of, same_slots}
+use Rattle.vss_recover.proofs.InParts.{value_of, synced_stands, synced_of, same_slots}
 use Rattle.vss_recover.proofs.recover_volume.RecoverVolume.sync.Goals as goal
 
 pub returns-in_err-sync-clause-stands : goal.returns-in_err-sync-clause-stands

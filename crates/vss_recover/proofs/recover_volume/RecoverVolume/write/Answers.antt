@@ -1,8 +1,8 @@
 use Rattle.std.proofs.Common.{sym, subst}
-use Rattle.block_data.specs.PayloadBytes.{payload_bytes}
-use Rattle.cow_volume.specs.GroupValue.{GroupValue}
+use Rattle.block_data.specs.BlockBytes.{payload_bytes}
+use Rattle.cow_volume.specs.StandsFor.{GroupValue}
 use Rattle.cow_volume.specs.OneVolume.{IsOneWritten, IsOneUnwritten}
-use Rattle.vss_recover.proofs.Values.{value_of, settled_up_to_in_all}
+use Rattle.vss_recover.proofs.InParts.{value_of, settled_up_to_in_all}
 use Rattle.vss_recover.proofs.Taken.{wrote_step, evicted_step}
 use Rattle.vss_recover.proofs.recover_volume.RecoverVolume.write.Goals as goal
 

@@ -1,7 +1,7 @@
 use Rattle.std.proofs.Common.{◌≡◌, ◌<◌, ◌+◌, ◌∙◌, ap, arith}
 use Rattle.std.proofs.lemmas.Option.{get_or_from_slice_get}
-use Rattle.vss_shards.specs.Entries.{count_of}
-use Rattle.vss_shards.proofs.Moments.{count_within, counts_more, journal_more}
+use Rattle.vss_shards.specs.Journals.{count_of}
+use Rattle.vss_shards.proofs.Lists.{count_within, counts_more, journal_more}
 use Rattle.vss_shards.proofs.journal.Journal.append.Goals as goal
 
 pub overflow_add-index_mut : goal.overflow_add-index_mut

@@ -1,7 +1,7 @@
 use Rattle.std.proofs.Common.{◌≡◌, ◌∙◌, sym, arith, Some, None}
 use Rattle.vss_shards.specs.Journals.{first_off}
-use Rattle.vss_shards.proofs.Moments.{counts_hold}
-use Rattle.vss_shards.proofs.Whole.{off_is_refused}
+use Rattle.vss_shards.proofs.Lists.{counts_hold}
+use Rattle.vss_shards.proofs.Keeping.{off_is_refused}
 use Rattle.vss_shards.proofs.journal.Journal.record_cut.Goals as goal
 
 pub returns-in-Some-clause-record : goal.returns-in-Some-clause-record

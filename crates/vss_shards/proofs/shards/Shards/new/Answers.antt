@@ -1,5 +1,5 @@
 use Rattle.std.proofs.Common.{◌∙◌, ap, arith, length}
-use Rattle.vss_shards.proofs.Numbered.{count_of_shards}
+use Rattle.vss_shards.proofs.Lists.{count_of_shards}
 use Rattle.vss_shards.proofs.shards.Shards.new.Goals as goal
 
 pub returns : goal.returns

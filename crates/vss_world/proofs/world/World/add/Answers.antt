@@ -1,5 +1,5 @@
 use Rattle.std.proofs.Common.{refl}
-use Rattle.vss_world.proofs.Adding.{joined, not_joined, check_refuses}
+use Rattle.vss_world.proofs.Called.{joined, not_joined, check_refuses}
 use Rattle.vss_world.proofs.world.World.add.Goals as goal
 
 pub returns-in-Refused : goal.returns-in-Refused

@@ -1,6 +1,5 @@
 use Rattle.std.proofs.Common.{sym, subst, ◌<◌}
-use Rattle.vss_world.proofs.Following.{at_of, standing_of, session_waits}
-use Rattle.vss_world.proofs.Timed.{answer_moves}
+use Rattle.vss_world.proofs.Following.{at_of, standing_of, session_waits, answer_moves}
 use Rattle.vss_world.proofs.world.World.answer.Goals as goal
 
 pub answer-requires-clause-standing : goal.answer-requires-clause-standing

@@ -1,6 +1,6 @@
 use Rattle.std.proofs.Common.{sym, ◌∙◌}
 use Rattle.vss_world.proofs.Following.{standing_in, session_waits}
-use Rattle.vss_world.proofs.Provided.{set_above}
+use Rattle.vss_world.proofs.Step.{set_above}
 use Rattle.vss_world.proofs.Called.{over_at, call_moves}
 use Rattle.vss_world.proofs.world.World.call.Goals as goal
 

@@ -1,5 +1,5 @@
 use Rattle.std.proofs.Common.{refl, sym, subst, ◌∙◌}
-use Rattle.block_data.specs.PayloadBytes.{payload_bytes}
+use Rattle.block_data.specs.BlockBytes.{payload_bytes}
 use Rattle.scenario.specs.declared.line.Line.{Line as Does}
 use Rattle.vss_world.specs.Changes.{IsWriteBy}
 use Rattle.vss_world.proofs.ToldMarks.{looked}

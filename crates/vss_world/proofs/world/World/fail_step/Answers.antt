@@ -5,11 +5,11 @@ use Rattle.sessions.specs.Moves.{IsNextStep}
 use Rattle.vss_model.specs.Acts.{state}
 use Rattle.vss_model.specs.State.{left_now}
 use Rattle.vss_model.specs.Steps.{is_flush}
-use Rattle.vss_model.specs.Told.{mark_of}
+use Rattle.vss_model.specs.Outcome.{mark_of}
 use Rattle.vss_model.specs.declared.event.Event.TheVariants.{Provider as ProviderEvent}
 use Rattle.vss_model.specs.declared.told.Told.TheVariants as told
 use Rattle.vss_world.proofs.Following.{standing_of}
-use Rattle.vss_world.proofs.Provided.{volume_within}
+use Rattle.vss_world.proofs.Step.{volume_within}
 use Rattle.vss_world.proofs.ToldMarks.{flush_fails, flush_is, flush_volume}
 use Rattle.vss_world.proofs.Unsaid.{step_unsaid}
 use Rattle.vss_world.proofs.world.World.fail_step.Goals as goal

@@ -1,5 +1,4 @@
-use Rattle.vss_world.proofs.Following.{at_of, standing_of, session_waits}
-use Rattle.vss_world.proofs.Timed.{idle_moves}
+use Rattle.vss_world.proofs.Following.{at_of, standing_of, session_waits, idle_moves}
 use Rattle.vss_world.proofs.world.World.idle.Goals as goal
 
 pub idle-requires : goal.idle-requires

@@ -1,9 +1,7 @@
 use Rattle.std.proofs.Common.{refl}
 use Rattle.vss_model.specs.Acts.{state}
 use Rattle.vss_world.proofs.Following.{standing_of}
-use Rattle.vss_world.proofs.Commits.{can_commit}
-use Rattle.vss_world.proofs.Provided.{volume_within}
-use Rattle.vss_world.proofs.Step.{step_moves, step_lasts}
+use Rattle.vss_world.proofs.Step.{can_commit, step_moves, step_lasts, volume_within}
 use Rattle.vss_world.proofs.world.World.make_step.Goals as goal
 
 pub step-made-requires-clause-in_range : goal.step-made-requires-clause-in_range

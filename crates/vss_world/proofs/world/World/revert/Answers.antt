@@ -53,5 +53,4 @@ returns-in-Ok-clause-stops g c = λ never k is.
     rw c.told.ensures (rw (← c.self.view_is) (stops_in_world g.D.Device.told c.args.scenario.now _ _ _ _ c.args.set c.args.volume k (c.in-Ok.ensures.stops never k is)))
 
 pub returns-in-Err-Fault-clause-stops : goal.returns-in-Err-Fault-clause-stops
-returns-in-Err-Fault-clause-stops g c = λ never k is.
-    rw c.told-in-Err-Fault.ensures (rw c.in-Err-Fault.field-0-is at c.in-Err-Fault.ensures.stops never k is)
+returns-in-Err-Fault-clause-stops g c = λ never k is. rw c.told-in-Err-Fault.ensures (rw c.in-Err-Fault.field-0-is at c.in-Err-Fault.ensures.stops never k is)

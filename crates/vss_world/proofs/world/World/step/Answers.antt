@@ -1,4 +1,4 @@
-use Rattle.vss_world.proofs.Listed.{listed_so}
+use Rattle.vss_world.proofs.Unsaid.{listed_so}
 use Rattle.vss_world.proofs.world.World.step.Goals as goal
 
 pub returns-clause-stepped : goal.returns-clause-stepped

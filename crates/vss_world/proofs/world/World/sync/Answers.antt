@@ -1,4 +1,4 @@
-use Rattle.vss_world.proofs.Synced.{synced_is, sync_is}
+use Rattle.vss_world.proofs.Digesting.{synced_is, sync_is}
 use Rattle.vss_world.proofs.world.World.sync.Goals as goal
 
 pub returns : goal.returns

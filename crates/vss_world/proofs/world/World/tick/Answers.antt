@@ -1,5 +1,4 @@
-use Rattle.vss_world.proofs.Following.{standing_of}
-use Rattle.vss_world.proofs.Timed.{tick_moves}
+use Rattle.vss_world.proofs.Following.{standing_of, tick_moves}
 use Rattle.vss_world.proofs.world.World.tick.Goals as goal
 
 pub time-item-requires : goal.time-item-requires

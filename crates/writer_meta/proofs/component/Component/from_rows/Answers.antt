@@ -1,6 +1,6 @@
 use Rattle.std.proofs.Common.{refl}
 use Rattle.writer_meta.specs.Document.{rows_of_part}
-use Rattle.writer_meta.proofs.Refusals.{Tells-then_on, Tells-handed_on}
+use Rattle.writer_meta.proofs.Lists.{Tells-then_on, Tells-handed_on}
 use Rattle.writer_meta.proofs.component.Component.from_rows.Goals as goal
 
 pub returns-in_err-kind-clause-refused : goal.returns-in_err-kind-clause-refused

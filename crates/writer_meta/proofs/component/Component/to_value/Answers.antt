@@ -1,4 +1,4 @@
-use Rattle.writer_meta.proofs.Texts.{IsUtf8-part_name, IsUtf8-part_path}
+use Rattle.writer_meta.proofs.Laws.{IsUtf8-part_name, IsUtf8-part_path}
 use Rattle.writer_meta.proofs.component.Component.to_value.Goals as goal
 
 pub str_of-name-requires : goal.str_of-name-requires

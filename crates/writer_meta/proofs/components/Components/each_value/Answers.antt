@@ -1,8 +1,7 @@
 use Rattle.std.proofs.Common.{◌≡◌, ◌∙◌, ◌++◌, [], ◌∷◌, map, ap, arith}
 use Rattle.std.proofs.lemmas.List.{map-append}
 use Rattle.writer_meta.specs.Metadata.{part_of}
-use Rattle.writer_meta.proofs.Lists.{after-more, after-all, Tells-after}
-use Rattle.writer_meta.proofs.Refusals.{Tells-handed_on}
+use Rattle.writer_meta.proofs.Lists.{after-more, after-all, Tells-after, Tells-handed_on}
 use Rattle.writer_meta.proofs.components.Components.each_value.Goals as goal
 
 pub returns-in_err-component-clause-refused : goal.returns-in_err-component-clause-refused

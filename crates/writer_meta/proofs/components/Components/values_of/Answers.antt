@@ -1,5 +1,5 @@
 use Rattle.std.proofs.Common.{◌≡◌, ◌++◌, [], ◌∷◌, arith}
-use Rattle.writer_meta.proofs.Written.{written-more, written-all, allowed_at}
+use Rattle.writer_meta.proofs.Laws.{written-more, written-all, allowed_at}
 use Rattle.writer_meta.proofs.components.Components.values_of.Goals as goal
 
 pub to_value-requires : goal.to_value-requires

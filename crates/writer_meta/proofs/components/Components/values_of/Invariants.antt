@@ -1,7 +1,6 @@
 use Rattle.std.proofs.Common.{◌≡◌, drop, map}
-use Rattle.writer_meta.specs.Metadata.{part_of}
-use Rattle.writer_meta.specs.Written.{parts_data}
-use Rattle.writer_meta.proofs.Written.{with_items}
+use Rattle.writer_meta.specs.Metadata.{part_of, parts_data}
+use Rattle.writer_meta.proofs.Laws.{with_items}
 use Rattle.writer_meta.proofs.components.Components.values_of.Given as goal
 
 -- the values so far, and then those of the components that are left

@@ -1,5 +1,5 @@
 use Rattle.writer_meta.specs.Document.{metadata_in}
-use Rattle.writer_meta.proofs.Refusals.{Tells-then_on, Tells-handed_on}
+use Rattle.writer_meta.proofs.Lists.{Tells-then_on, Tells-handed_on}
 use Rattle.writer_meta.proofs.metadata.Metadata.from_json.Goals as goal
 
 pub returns-in_err-value-clause-refused : goal.returns-in_err-value-clause-refused

@@ -1,7 +1,7 @@
 use Rattle.std.proofs.Common.{refl, rules}
 use Rattle.writer_meta.specs.Document.{rows_of_meta}
 use Rattle.writer_meta.proofs.Inversions.{name_in-allowed, freeze_timeout_in-allowed, list_of_parts-allowed}
-use Rattle.writer_meta.proofs.Refusals.{Tells-then_on, Tells-handed_on}
+use Rattle.writer_meta.proofs.Lists.{Tells-then_on, Tells-handed_on}
 use Rattle.writer_meta.proofs.metadata.Metadata.from_rows.Goals as goal
 
 pub returns-in_err-class-clause-refused : goal.returns-in_err-class-clause-refused

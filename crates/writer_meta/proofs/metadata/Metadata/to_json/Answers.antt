@@ -3,11 +3,10 @@ use Rattle.serde_json.specs.Data.{depth}
 use Rattle.serde_json.specs.View.{view}
 use Rattle.serde_json.specs.Written.{has_float, compact_text}
 use Rattle.serde_json.specs.Read.{read}
-use Rattle.writer_meta.specs.Metadata.{meta_of}
+use Rattle.writer_meta.specs.Metadata.{meta_of, meta_data, document_text}
 use Rattle.writer_meta.specs.Document.{metadata_in}
-use Rattle.writer_meta.specs.Written.{meta_data, document_text}
 use Rattle.writer_meta.proofs.Laws.{meta_in-meta_data, has_float-meta_data, depth-meta_data}
-use Rattle.writer_meta.proofs.Refusals.{has_value}
+use Rattle.writer_meta.proofs.Lists.{has_value}
 use Rattle.writer_meta.proofs.metadata.Metadata.to_json.Goals as goal
 
 pub returns-clause-written : goal.returns-clause-written

@@ -5,8 +5,8 @@ use Rattle.serde_json.proofs.Views.{view-Object}
 use Rattle.vss_names.specs.Level as level
 use Rattle.vss_names.specs.Usage as usage
 use Rattle.vss_names.specs.SourceKind as source
-use Rattle.writer_meta.specs.Written.{class_text, meta_data}
-use Rattle.writer_meta.proofs.Texts.{IsUtf8-writer_name}
+use Rattle.writer_meta.specs.Metadata.{class_text, meta_data}
+use Rattle.writer_meta.proofs.Laws.{IsUtf8-writer_name}
 use Rattle.writer_meta.proofs.metadata.Metadata.to_value.Goals as goal
 
 pub str_of-name-requires : goal.str_of-name-requires

@@ -1,9 +1,7 @@
 use Rattle.std.proofs.Common.{◌≡◌, ◌∙◌, sym, ap, true, string_bytes}
 use Rattle.serde_json.specs.View.{members_view}
-use Rattle.writer_meta.specs.Document.{is_known, component_members, rows_in}
-use Rattle.writer_meta.specs.Members.{rows_or, rows_with, rows_seen}
-use Rattle.writer_meta.proofs.Found.{rows-further}
-use Rattle.writer_meta.proofs.Lists.{unknown-further}
+use Rattle.writer_meta.specs.Document.{is_known, component_members, rows_in, rows_or, rows_with, rows_seen}
+use Rattle.writer_meta.proofs.Lists.{rows-further, unknown-further}
 use Rattle.writer_meta.proofs.part_values.PartValues.of.Goals as goal
 
 pub loop-name-preserved : goal.loop-name-preserved

@@ -1,7 +1,6 @@
 use Rattle.std.proofs.Common.{◌≡◌}
 use Rattle.serde_json.specs.View.{members_view}
-use Rattle.writer_meta.specs.Document.{unknown_in, is_known, component_members, rows_in}
-use Rattle.writer_meta.specs.Members.{rows_or, rows_seen}
+use Rattle.writer_meta.specs.Document.{unknown_in, is_known, component_members, rows_in, rows_or, rows_seen}
 use Rattle.writer_meta.proofs.part_values.PartValues.of.Given as goal
 
 -- what is left adds to what was found, and says which is the first that is unknown

@@ -1,6 +1,6 @@
 use Rattle.std.proofs.Common.{take}
 use Rattle.std.specs.Fmt.{HasWritten, IsPlainFormatter}
-use Rattle.writer_meta.specs.Messages.{shown_text}
+use Rattle.writer_meta.specs.Refusal.{shown_text}
 use Rattle.writer_meta.proofs.shown.ShownDisplay.fmt.Given as goal
 
 -- the bytes so far are written as they are shown

@@ -1,3 +1,0 @@
-pub mod BlockSum
-pub mod KeptSums
-pub mod StoreDevice

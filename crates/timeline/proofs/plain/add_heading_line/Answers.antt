@@ -1,5 +1,0 @@
-use Rattle.timeline.proofs.Growing.{is_lines_more}
-use Rattle.timeline.proofs.plain.add_heading_line.Goals as goal
-
-pub returns : goal.returns
-returns c = is_lines_more c.args.out.now.bytes c.add_line.new.out.bytes c.args.line.now c.in_ok-add_line.ensures

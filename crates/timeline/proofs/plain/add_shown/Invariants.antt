@@ -1,6 +1,0 @@
-use Rattle.timeline.specs.Narrow.{IsLines}
-use Rattle.timeline.proofs.plain.add_shown.Given as goal
-
--- the text stays one of lines
-abbrev pub invariant-loop-row : goal.invariant-loop-row
-invariant-loop-row l = IsLines l.initial.out.bytes → IsLines l.out.bytes

@@ -1,9 +1,0 @@
-pub mod Drawn
-pub mod Ended
-pub mod Escaped
-pub mod Lines
-pub mod Named
-pub mod Narrow
-pub mod Refused
-pub mod Script
-pub mod Words

@@ -1,0 +1,4 @@
+pub mod Drawn
+pub mod Ended
+pub mod Lines
+pub mod Refused
