@@ -21,6 +21,15 @@ def call(*words, **more):
     return subprocess.run(words, check=True, capture_output=True, text=True, **more).stdout
 
 
+def unmount(place):
+    """Unmounts a file system, once the last process of a server that was stopped there has ended."""
+    for _try in range(300):
+        if subprocess.run(["umount", place], capture_output=True).returncode == 0:
+            return
+        time.sleep(0.1)
+    call("umount", place)
+
+
 class Server:
     """A PostgreSQL server of its own, whose clients use a socket in a folder."""
 
@@ -104,7 +113,7 @@ class Mounted(Room):
         if self.client:
             self.client.end()
             self.server.stop()
-        call("umount", self.mount)
+        unmount(self.mount)
 
     def judge_mounted(self, number, client, confirmed):
         """The version of a set, mounted."""
@@ -120,7 +129,7 @@ class Mounted(Room):
             if client:
                 self.judge_server(number, f"{then}/pg", client, confirmed)
         finally:
-            call("umount", then)
+            unmount(then)
 
     def judge_server(self, number, data, client, confirmed):
         server = Server(data, f"{self.path}/pg.then")
