@@ -12,11 +12,6 @@ use Rattle.diff_area.specs.declared.table_record.Record.{Record}
 
 -- ## Lists read by place, after a write, a part or blocks in front.
 
-pub get-bound : {X : Type 0} (xs : List X) (k : ℕ) (x : X) → slice_get xs k ≡ Some x → k < length xs
-get-bound [] k x h = cc
-get-bound (y ∷ ys) zero x h = omega arith
-get-bound (y ∷ ys) (suc k) x h = let i = get-bound ys k x h in omega arith
-
 pub past : {X : Type 0} {x : X} (k : ℕ) → slice_get {X = X} [] k ≡ Some x → ⊥
 past k h = grind arith
 
@@ -85,17 +80,14 @@ AreOf n (x ∷ xs) = (length x ≡ n) × AreOf n xs
 
 pub length-concat : (n : ℕ) (bs : List (List ℕ)) → AreOf n bs → length (concat bs) ≡ n * length bs
 length-concat n [] h = omega arith
-length-concat n (x ∷ xs) h = let ih = length-concat n xs h.1 in grind (arith, common_steps, length-append)
+length-concat n (x ∷ xs) h = grind (arith, common_steps, length-append, length-concat n xs h.1)
 
 drop-front : (x ys : List ℕ) (n m : ℕ) → length x ≡ n → drop (m + n) (x ++ ys) ≡ drop m ys
-drop-front x ys n m h =
-    ap (λ k. drop k (x ++ ys)) (omega arith) ∙ sym (drop-drop m n (x ++ ys)) ∙ ap (drop m) (drop_at x ys n h)
+drop-front x ys n m h = grind (arith, common_steps, drop-drop m n (x ++ ys), drop_at x ys n h)
 
 take-front : (x ys : List ℕ) (n m : ℕ) → length x ≡ n → take (m + n) (x ++ ys) ≡ x ++ take m ys
 take-front [] ys n m h = ap (λ k. take k ys) (omega arith)
-take-front (y ∷ x) ys n m h =
-    let e : m + n ≡ suc (m + (n - 1)) = omega arith in
-    ap (λ k. take k (y ∷ (x ++ ys))) e ∙ ap (λ z. y ∷ z) (take-front x ys (n - 1) m (omega arith))
+take-front (y ∷ x) ys n m h = let e : m + n ≡ suc (m + (n - 1)) = omega arith in grind (arith, common_steps, take-front x ys (n - 1) m (omega arith))
 
 none : (n : ℕ) → drop {A = ℕ} n [] ≡ []
 none n = grind arith
@@ -106,16 +98,12 @@ no_more n = grind arith
 drop-blocks : (n a : ℕ) (bs : List (List ℕ)) → AreOf n bs → drop (n * a) (concat bs) ≡ concat (drop a bs)
 drop-blocks n zero bs h = let e : n * 0 ≡ 0 = omega arith in ap (λ k. drop k (concat bs)) e
 drop-blocks n (suc a) [] h = none (n * suc a)
-drop-blocks n (suc a) (x ∷ xs) h =
-    let m : n * suc a ≡ n * a + n = grind arith in
-    ap (λ k. drop k (x ++ concat xs)) m ∙ drop-front x (concat xs) n (n * a) h.0 ∙ drop-blocks n a xs h.1
+drop-blocks n (suc a) (x ∷ xs) h = grind (arith, common_steps, drop-blocks n a xs h.1, drop-front x (concat xs) n (n * a) h.0)
 
 take-blocks : (n c : ℕ) (bs : List (List ℕ)) → AreOf n bs → take (n * c) (concat bs) ≡ concat (take c bs)
 take-blocks n zero bs h = let e : n * 0 ≡ 0 = omega arith in ap (λ k. take k (concat bs)) e
 take-blocks n (suc c) [] h = no_more (n * suc c)
-take-blocks n (suc c) (x ∷ xs) h =
-    let m : n * suc c ≡ n * c + n = grind arith in
-    ap (λ k. take k (x ++ concat xs)) m ∙ take-front x (concat xs) n (n * c) h.0 ∙ ap (λ z. x ++ z) (take-blocks n c xs h.1)
+take-blocks n (suc c) (x ∷ xs) h = grind (arith, common_steps, take-blocks n c xs h.1, take-front x (concat xs) n (n * c) h.0)
 
 pub drop-whole : (n a : ℕ) (bs : List (List ℕ)) → AreOf n bs → AreOf n (drop a bs)
 drop-whole n zero bs h = h
@@ -160,8 +148,7 @@ told-write t told a b p q x e f h s n = grind (arith, with_first-write)
 
 pub told-keep : (t : List (List ℕ)) (told a : Option (List (List ℕ))) (p q : ℕ) (x : List ℕ) → a ≡ option_map (with_first (take p t)) told → ((ds : List (List ℕ)) → told ≡ Some ds → slice_get ds p ≡ Some x) → slice_get t p ≡ Some x → q ≡ suc p → a ≡ option_map (with_first (take q t)) told
 told-keep t None a p q x f h s n = f
-told-keep t (Some ds) a p q x f h s n =
-    f ∙ ap Some (with_first-keep t ds p x s (h ds refl)) ∙ ap (λ m. Some (with_first (take m t) ds)) (sym n)
+told-keep t (Some ds) a p q x f h s n = grind (arith, common_steps, with_first-keep t ds p x s (h ds refl))
 
 -- a list that a function gives, place by place
 pub get-map_range : {X : Type 0} (f : ℕ → X) (a n k m : ℕ) → k < n → m ≡ a + k → slice_get (map f (range_with_len a n)) k ≡ Some (f m)

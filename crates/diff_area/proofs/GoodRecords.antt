@@ -1,22 +1,25 @@
 -- The records of a table that are read one after another: those of a table that is of the format are those of an area.
 use Rattle.std.proofs.Common.{ℕ, zero, suc, take, ◌≡◌, ◌<◌, ◌≤◌, ◌+◌, true, List, [], ◌∷◌, ◌++◌, length, slice_get, refl, sym, ap, ◌∙◌, arith, Bool, false}
-use Rattle.std.proofs.Common.{cond, ◌||◌, not, ◌≢◌, ◌*◌, inl, inr, ◌&&◌, nat_le, map, Option, Some, None, slice_index_or, subst}
+use Rattle.std.proofs.Common.{cond, ◌||◌, not, ◌≢◌, ◌*◌, inl, inr, ◌&&◌, nat_le, map, Option, Some, None, slice_index_or, subst, rules}
 use Rattle.std.proofs.lemmas.Bool.{cases_lt}
 use Rattle.std.proofs.lemmas.Bool.Decides.{nat_tests}
 use Rattle.std.proofs.lemmas.List.{take-map}
-use Rattle.std.proofs.lemmas.List.Folds.{list_any-append, list_any_at}
+use Rattle.std.proofs.lemmas.List.Folds.{list_any-append}
 use Rattle.std.proofs.lemmas.List.FromFn.{map-range_with_len_more, length-map-range_with_len}
 use Rattle.std.specs.BTreeMap.{is_at}
 use Rattle.std.specs.BTreeSet.{BTreeSet, contains}
 use Rattle.std.specs.List.{range_with_len, list_any, find}
 use Rattle.std.specs.Ordering.{is_eq}
+use Rattle.std.proofs.lemmas.Grind.{common_steps}
+use Rattle.std.proofs.lemmas.Option.{slice_get_within}
+use Rattle.std.proofs.Math.Bool.{or-false}
 use Rattle.diff_area.specs.Format.{row_at, row_of, rows_in, is_good, good_at, row_count, is_same, layout_in, volumes_from, volume_count, volumes_in}
 use Rattle.diff_area.specs.Format.{is_out_of_range, number_at, HasHeader, is_used, is_sound, IsNarrow, AreNarrow, is_free, free, AreVolumes, IsUsed, AreRecords}
 use Rattle.diff_area.specs.ReadRows.{IsBadRow, AreGood, AreRefused, good_under, IsTable, record_cmp, IsSeen, IsNoted}
 use Rattle.diff_area.specs.declared.area_fault.AreaFault.{AreaFault}
 use Rattle.diff_area.specs.declared.header.Header.{Header}
 use Rattle.diff_area.specs.declared.table_record.Record.{Record}
-use Rattle.diff_area.proofs.ByPlace.{past, get-push, get-of_take, get-bound, get-map_range}
+use Rattle.diff_area.proofs.ByPlace.{past, get-push, get-of_take, get-map_range}
 
 -- ## The records of a table that are read one after another.
 
@@ -78,11 +81,8 @@ is_same-sym a b = grind arith
 one_more : (same among : Bool) → cond same true among ≡ (among || same)
 one_more same among = grind arith
 
-last : (b : Bool) → (b || false) ≡ b
-last b = grind arith
-
 pub list_any-push : {X : Type 0} (p : X → Bool) (xs : List X) (x : X) → list_any p (xs ++ x ∷ []) ≡ (list_any p xs || p x)
-list_any-push p xs x = list_any-append p xs (x ∷ []) ∙ ap (λ b. list_any p xs || b) (last (p x))
+list_any-push p xs x = list_any-append p xs (x ∷ []) ∙ ap (λ b. list_any p xs || b) (or-false (p x))
 
 -- a record that is not free was put into the set
 pub noted : (old new : BTreeSet Record) (r : Record) (added : Bool) → is_free r ≡ false → added ≡ not (contains record_cmp old r) → ((q : Record) → contains record_cmp new q ≡ cond (is_at (record_cmp r) q) true (contains record_cmp old q)) → IsNoted old new r added
@@ -115,9 +115,6 @@ by_test r b h n = grind arith
 pub not_free : (r : Record) → r ≢ free → is_free r ≡ false
 not_free r n = by_test r (is_free r) refl n
 
-pub same_itself : (r : Record) → is_same r r ≡ true
-same_itself r = grind arith
-
 -- ## volumes
 
 length-volumes_in : (header : List ℕ) → length (volumes_in header) ≡ volume_count header
@@ -145,16 +142,7 @@ none_found (x ∷ xs) zero d h b = here (is_out_of_range x) x (find is_out_of_ra
 none_found (x ∷ xs) (suc k) d h b = none_found xs k d (further (is_out_of_range x) x (find is_out_of_range xs) h) (omega arith)
 
 pub are_volumes : (size : ℕ) (header : List ℕ) → HasHeader size header → AreVolumes (volumes_in header)
-are_volumes size header h =
-    let n = volume_count header in
-    let len = length-volumes_in header in
-    let low = at_most 1 n (and_left (nat_le 1 n) (nat_le n 128) h.volumes) in
-    let high = at_most n 128 (and_right (nat_le 1 n) (nat_le n 128) h.volumes) in
-    record {
-      some = omega arith;
-      few = omega arith;
-      each = λ k d b. in_range (slice_index_or (volumes_in header) k d) (none_found (volumes_in header) k d h.blocks b);
-    }
+are_volumes size header h = search (rules, length-volumes_in, low, at_most, and_left, high, and_right, in_range, none_found, nat_le)
 
 -- ## records
 
@@ -173,7 +161,7 @@ get-rows_in layout table n k h = get-map_range (λ slot. row_of layout (row_at t
 
 -- a record that stands in the list is that of its slot
 found_at : (h : Header) (table : List ℕ) (rows : List Record) (slot : ℕ) (r : Record) → rows ≡ rows_in h.layout table h.slots → slice_get rows slot ≡ Some r → (slot < h.slots) × (r ≡ row_of h.layout (row_at table slot))
-found_at h table rows slot r e g = grind (arith, get-bound, length-rows_in, get-rows_in)
+found_at h table rows slot r e g = grind (arith, slice_get_within, length-rows_in, get-rows_in)
 
 sound_used : (volumes : List ℕ) (slots layout slot : ℕ) (row : List ℕ) → is_sound volumes slots layout slot row ≡ true → is_free (row_of layout row) ≡ false → is_used volumes (row_of layout row) ≡ true
 unfolding is_sound
@@ -193,17 +181,13 @@ used_is volumes r h = grind arith
 -- no two slots have one record
 apart : (h : Header) (table : List ℕ) (rows : List Record) (slot other : ℕ) (r : Record) → IsTable h table rows → slice_get rows slot ≡ Some r → slice_get rows other ≡ Some r → r ≢ free → slot < other → ⊥
 apart h table rows slot other r t f g n b =
-    let here = found_at h table rows slot r t.rows_are f in
     let there = found_at h table rows other r t.rows_are g in
     let row = row_at table other in
     let good = t.good other (omega (arith, there.0)) in
     let free_test = ap is_free (sym there.1) ∙ not_free r n in
-    let fresh = good_new h.volumes.items h.slots h.layout other row (rows_in h.layout table other) good free_test in
-    let long = length-rows_in h.layout table other in
-    let stands = ap (λ x. is_same (row_of h.layout row) x) (get_or-rows_in h.layout table other slot r b ∙ sym here.1 ∙ there.1) ∙ same_itself (row_of h.layout row) in
-    let any = list_any_at (is_same (row_of h.layout row)) (rows_in h.layout table other) slot r (omega arith) stands in
-    let contradiction = sym (ap not any) ∙ fresh in
-    cc
+    let fact = good_new h.volumes.items h.slots h.layout other row (rows_in h.layout table other) good free_test in
+    let fact1 = get_or-rows_in h.layout table other slot r b in
+    grind (arith, common_steps, found_at h table rows slot r t.rows_are f, not_free r n, length-rows_in h.layout table other)
 
 pub are_records : (h : Header) (table : List ℕ) (rows : List Record) → IsTable h table rows → h.slots ≤ 65536 → AreRecords h.volumes.items rows
 are_records h table rows t few = record {

@@ -5,6 +5,7 @@ use Rattle.std.proofs.lemmas.Bool.Decides.{nat_tests}
 use Rattle.std.proofs.lemmas.List.{append_assoc, length-append, drop_at, drop-drop}
 use Rattle.std.proofs.lemmas.Grind.{common_steps}
 use Rattle.std.proofs.lemmas.Bool.{and_from}
+use Rattle.std.proofs.Common.{rules}
 use Rattle.byteorder.specs.Endian.{little_number}
 use Rattle.byteorder.specs.Numbers.{little_number-reads_back, length-bytes_low_first}
 use Rattle.block_data.specs.BlockBytes.{run_of}
@@ -56,29 +57,23 @@ rest_of volumes records = run_of (BLOCK - length (codes "VSSAREA1" ++ number_byt
 
 parts : (volumes : List ℕ) (records : List Record) → header_bytes volumes records ≡ codes "VSSAREA1" ++ (number_bytes 2 ++ (number_bytes (length records) ++ (number_bytes (used_in records) ++ (number_bytes (length volumes) ++ (flat_map number_bytes volumes ++ rest_of volumes records)))))
 unfolding header_bytes padded rest_of
-parts volumes records = regroup (codes "VSSAREA1") (number_bytes 2) (number_bytes (length records)) (number_bytes (used_in records)) (number_bytes (length volumes)) (flat_map number_bytes volumes) (rest_of volumes records)
+parts volumes records = search (rules, regroup, rest_of)
 
 second : (m a rest bytes : List ℕ) (at n : ℕ) → bytes ≡ m ++ (a ++ (number_bytes n ++ rest)) → length m + length a ≡ at → n < 4294967296 → number_at bytes at ≡ n
-second m a rest bytes at n e l h =
-    number-back (m ++ a) rest bytes at n (e ∙ sym (append_assoc m a (number_bytes n ++ rest))) (length-append m a ∙ l) h
+second m a rest bytes at n e l h = grind (arith, common_steps, number-back (m ++ a) rest bytes, append_assoc m a (number_bytes n ++ rest), length-append m a)
 
 third : (m a b rest bytes : List ℕ) (at n : ℕ) → bytes ≡ m ++ (a ++ (b ++ (number_bytes n ++ rest))) → length m + length a + length b ≡ at → n < 4294967296 → number_at bytes at ≡ n
-third m a b rest bytes at n e l h =
-    let len = length-append m a in
-    second (m ++ a) b rest bytes at n (e ∙ sym (append_assoc m a (b ++ (number_bytes n ++ rest)))) (omega arith) h
+third m a b rest bytes at n e l h = let len = length-append m a in grind (arith, common_steps, second, append_assoc)
 
 fourth : (m a b c rest bytes : List ℕ) (at n : ℕ) → bytes ≡ m ++ (a ++ (b ++ (c ++ (number_bytes n ++ rest)))) → length m + length a + length b + length c ≡ at → n < 4294967296 → number_at bytes at ≡ n
-fourth m a b c rest bytes at n e l h =
-    let len = length-append m a in
-    third (m ++ a) b c rest bytes at n (e ∙ sym (append_assoc m a (b ++ (c ++ (number_bytes n ++ rest))))) (omega arith) h
+fourth m a b c rest bytes at n e l h = let len = length-append m a in grind (arith, common_steps, third, append_assoc)
 
 -- what stands after the five first parts
 after_five : (m a b c d rest bytes : List ℕ) (at : ℕ) → bytes ≡ m ++ (a ++ (b ++ (c ++ (d ++ rest)))) → length m + length a + length b + length c + length d ≡ at → drop at bytes ≡ rest
 after_five m a b c d rest bytes at e l =
     let front = m ++ a ++ b ++ c ++ d in
     let grouped : m ++ (a ++ (b ++ (c ++ (d ++ rest)))) ≡ front ++ rest = simp append_assoc in
-    let len : length front ≡ at = simp length-append l in
-    ap (drop at) (e ∙ grouped) ∙ drop_at front rest at len
+    let len : length front ≡ at = simp length-append l in grind (arith, common_steps, drop_at)
 
 pub length-magic : length (codes "VSSAREA1") ≡ 8
 length-magic = refl
@@ -138,7 +133,7 @@ says_volumes volumes records v =
 
 pub length-numbers : (ns : List ℕ) → length (flat_map number_bytes ns) ≡ 4 * length ns
 length-numbers [] = refl
-length-numbers (n ∷ ns) = let ih = length-numbers ns in grind (arith, common_steps, length-append, length-number_bytes)
+length-numbers (n ∷ ns) = grind (arith, common_steps, length-append, length-number_bytes, length-numbers ns)
 
 says_rest : (volumes : List ℕ) (records : List Record) → length volumes ≤ 128 → rest_in (header_bytes volumes records) ≡ rest_of volumes records
 unfolding rest_in
@@ -184,7 +179,6 @@ begins rest = refl
 -- the header that is written is of the format
 pub header_valid : (size : ℕ) (volumes : List ℕ) (records : List Record) → AreVolumes volumes → length records ≤ 65536 → size ≡ BLOCK * blocks_for (length records) → HasHeader size (header_bytes volumes records)
 header_valid size volumes records v few e =
-    let header = header_bytes volumes records in
     record {
       magic = ap has_magic (parts volumes records) ∙ begins (number_bytes 2 ++ (number_bytes (length records) ++ (number_bytes (used_in records) ++ (number_bytes (length volumes) ++ (flat_map number_bytes volumes ++ rest_of volumes records)))));
       layout = ap is_layout (says_layout volumes records);

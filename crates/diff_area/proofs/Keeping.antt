@@ -1,15 +1,17 @@
 -- What the calls on an area leave of what its fields keep; a record that is set changes its own page alone.
-use Rattle.std.proofs.Common.{ℕ, ◌≡◌, ◌≢◌, ◌<◌, ◌≤◌, ◌+◌, ◌-◌, ◌*◌, ◌/◌, List, take, drop, slice_set, inl, inr, ap, arith, Bool, true, false, length, Option}
-use Rattle.std.proofs.Common.{Some, Result, OnOk, OnErr, slice_get, option_map, Vec, vec_capacity, refl, sym, subst, ◌∙◌, lit<}
+use Rattle.std.proofs.Common.{ℕ, ◌≡◌, ◌≢◌, ◌<◌, ◌≤◌, ◌+◌, ◌-◌, ◌*◌, ◌/◌, List, take, drop, slice_set, inl, inr, ap, arith, Bool, true, length, Option}
+use Rattle.std.proofs.Common.{Some, Result, OnOk, OnErr, slice_get, option_map, Vec, vec_capacity, refl, sym, subst, ◌∙◌, lit<, rules}
 use Rattle.std.proofs.lemmas.Bool.{cases_lt}
 use Rattle.std.proofs.lemmas.List.{drop-set-lt, drop-set-add, take-set-le, length-set, length-take-le}
 use Rattle.std.specs.List.{flat_map}
 use Rattle.std.specs.declared.alloc.Global.{Global}
+use Rattle.std.proofs.lemmas.Grind.{common_steps}
+use Rattle.std.proofs.lemmas.Option.{slice_get_within}
 use Rattle.block_data.specs.declared.block_buf.TheConstants.{BLOCK}
 use Rattle.diff_area.specs.AreaValue.{KeepsArea, AreWritten, AreInPart, with_first, records_of_page, page_bytes, padded, record_bytes, table_blocks}
 use Rattle.diff_area.specs.Format.{pages_for, place_of_slot, free, AreRecords, IsUsed, IsNarrow, AreNarrow}
 use Rattle.diff_area.specs.declared.table_record.Record.{Record}
-use Rattle.diff_area.proofs.ByPlace.{get-bound, get-set, get-set_other, get-take, get-with_first-within, get-with_first-past, table-page, length-table}
+use Rattle.diff_area.proofs.ByPlace.{get-set, get-set_other, get-take, get-with_first-within, get-with_first-past, table-page, length-table}
 
 -- ## A record that is set changes its own page alone.
 
@@ -40,7 +42,7 @@ told-before told f blocks h = grind arith
 -- ## the device changes
 
 written-copied : (told now : Option (List (List ℕ))) (records : List Record) (changed : List Bool) (p : ℕ) (block : List ℕ) → AreWritten told records changed → length changed < p → now ≡ option_map (λ blocks. slice_set blocks p block) told → AreWritten now records changed
-written-copied told now records changed p block h b e blocks k f g = grind (arith, told-before, get-bound, get-set_other)
+written-copied told now records changed p block h b e blocks k f g = grind (arith, told-before, slice_get_within, get-set_other)
 
 written-same : (told now : Option (List (List ℕ))) (records : List Record) (changed : List Bool) → AreWritten told records changed → now ≡ told → AreWritten now records changed
 written-same told now records changed h e blocks k f g = h blocks k (sym e ∙ f) g
@@ -51,15 +53,7 @@ written-by r told now records changed p block h b e f = grind (arith, written-co
 -- a block was written to a slot, or the write failed
 pub keeps-copied : {D T E : Type 0} (told : D → Option (List (List ℕ))) (size : D → ℕ) (old new : D) (volumes : List ℕ) (records : List Record) (changed : List Bool) (page : Vec ℕ Global) (slot : ℕ) (block : List ℕ) (r : Result T E) → KeepsArea told size old volumes records changed page → OnOk r (told new ≡ option_map (λ blocks. slice_set blocks (place_of_slot (length records) slot) block) (told old)) → OnErr r (told new ≡ told old) → size new ≡ size old → KeepsArea told size new volumes records changed page
 keeps-copied told size old new volumes records changed page slot block r h e f s =
-    let pages = h.pages in
-    record {
-      fits = s ∙ h.fits;
-      are_volumes = h.are_volumes;
-      are_records = h.are_records;
-      pages = h.pages;
-      written = written-by r (told old) (told new) records changed (place_of_slot (length records) slot) block h.written (omega arith) e f;
-      room = h.room;
-    }
+    grind (arith, common_steps, written-by r (told old) (told new) records changed (place_of_slot (length records) slot) block h.written (omega arith) e f)
 
 -- ## a record changes
 
@@ -110,17 +104,15 @@ keeps-row : {D : Type 0} (told : D → Option (List (List ℕ))) (size : D → �
 keeps-row told size device volumes records changed page slot row h b valid = grind (arith, length-set, record-set)
 
 pub keeps-set : {D : Type 0} (told : D → Option (List (List ℕ))) (size : D → ℕ) (device : D) (volumes : List ℕ) (records : List Record) (changed : List Bool) (page : Vec ℕ Global) (slot : ℕ) (row : Record) → KeepsArea told size device volumes records changed page → slot < length records → IsUsed volumes row → ((other : ℕ) → slice_get records other ≡ Some row → other ≡ slot) → IsNarrow row → KeepsArea told size device volumes (slice_set records slot row) (slice_set changed (slot / 1024) true) page
-keeps-set told size device volumes records changed page slot row h b used once thin =
-    keeps-row told size device volumes records changed page slot row h b (records-set volumes records slot row h.are_records used once thin)
+keeps-set told size device volumes records changed page slot row h b used once thin = search (rules, keeps-row, records-set)
 
 pub keeps-cleared : {D : Type 0} (told : D → Option (List (List ℕ))) (size : D → ℕ) (device : D) (volumes : List ℕ) (records : List Record) (changed : List Bool) (page : Vec ℕ Global) (slot : ℕ) → KeepsArea told size device volumes records changed page → slot < length records → KeepsArea told size device volumes (slice_set records slot free) (slice_set changed (slot / 1024) true) page
-keeps-cleared told size device volumes records changed page slot h b =
-    keeps-row told size device volumes records changed page slot free h b (records-cleared volumes records slot h.are_records)
+keeps-cleared told size device volumes records changed page slot h b = search (rules, keeps-row, records-cleared)
 
 -- ## the table is written
 
 written-all : (told now : Option (List (List ℕ))) (volumes : List ℕ) (records : List Record) (changed : List Bool) → length changed ≡ pages_for (length records) → now ≡ option_map (with_first (table_blocks volumes records)) told → AreWritten now records changed
-written-all told now volumes records changed pages e blocks k f g = grind (arith, told-before, get-bound, length-table, get-with_first-within, table-page)
+written-all told now volumes records changed pages e blocks k f g = grind (arith, told-before, slice_get_within, length-table, get-with_first-within, table-page)
 
 -- the table was written
 pub keeps-synced : {D : Type 0} (told : D → Option (List (List ℕ))) (size : D → ℕ) (old new : D) (volumes : List ℕ) (records : List Record) (changed now : List Bool) (page paged : Vec ℕ Global) → KeepsArea told size old volumes records changed page → told new ≡ option_map (with_first (table_blocks volumes records)) (told old) → size new ≡ size old → length now ≡ length changed → BLOCK ≤ vec_capacity paged → KeepsArea told size new volumes records now paged
@@ -131,7 +123,6 @@ written-part told now volumes records changed pages h part blocks k f g =
     let t = table_blocks volumes records in
     let first = take part.count t in
     let was = told-before told (with_first first) blocks (sym part.blocks ∙ f) in
-    let bound = get-bound changed k false g in
     let len = length-table volumes records in
     let short = length-take-le part.count t part.within in
     ap (λ bs. slice_get bs (1 + k)) was.2 ∙ elim (cases_lt (1 + k) part.count) [
@@ -141,11 +132,4 @@ written-part told now volumes records changed pages h part blocks k f g =
 
 -- the table was written in part
 pub keeps-in_part : {D : Type 0} (told : D → Option (List (List ℕ))) (size : D → ℕ) (old new : D) (volumes : List ℕ) (records : List Record) (changed : List Bool) (page paged : Vec ℕ Global) → KeepsArea told size old volumes records changed page → AreInPart (table_blocks volumes records) (told old) (told new) → size new ≡ size old → BLOCK ≤ vec_capacity paged → KeepsArea told size new volumes records changed paged
-keeps-in_part told size old new volumes records changed page paged h part s room = record {
-  fits = s ∙ h.fits;
-  are_volumes = h.are_volumes;
-  are_records = h.are_records;
-  pages = h.pages;
-  written = written-part (told old) (told new) volumes records changed h.pages h.written part;
-  room = room;
-}
+keeps-in_part told size old new volumes records changed page paged h part s room = search (rules, written-part)

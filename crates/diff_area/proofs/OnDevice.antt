@@ -1,19 +1,20 @@
 -- What is read of a device's blocks, and for what the device stands once the table is written.
 use Rattle.std.proofs.Common.{ℕ, zero, suc, ◌≡◌, ◌+◌, List, [], ◌∷◌, ◌++◌, take, drop, Option, Some, IfSome, slice_get, sym, ap, ◌∙◌, arith, length, ◌<◌, ◌≤◌}
-use Rattle.std.proofs.Common.{◌*◌, Bool, cond, min, None, slice_index_or, refl, map, All, option_map, codes, subst}
+use Rattle.std.proofs.Common.{◌*◌, Bool, cond, min, None, slice_index_or, refl, map, All, option_map, subst}
 use Rattle.std.proofs.lemmas.Grind.{common_steps}
 use Rattle.std.proofs.lemmas.List.{append-nil, append_assoc, take_min, length-append, length-drop, take_at}
 use Rattle.std.proofs.lemmas.List.FromFn.{length-map-range_with_len}
-use Rattle.std.specs.List.{concat, flat_map, range_with_len}
+use Rattle.std.specs.List.{concat, range_with_len}
 use Rattle.std.specs.List.Sorted.{IsPermutation}
+use Rattle.std.proofs.lemmas.Bool.Decides.{nat_tests}
 use Rattle.block_data.specs.declared.block_buf.TheConstants.{BLOCK}
 use Rattle.volume_device.specs.InMemory.{AreBlocks}
 use Rattle.volume_device.specs.declared.device.Device.{Ghosts}
 use Rattle.write_history.specs.Slots.{Copy}
-use Rattle.diff_area.specs.AreaValue.{with_first, AreOfRecords, number_bytes, page_bytes, header_bytes, table_blocks}
+use Rattle.diff_area.specs.AreaValue.{with_first, AreOfRecords, page_bytes, header_bytes, table_blocks}
 use Rattle.diff_area.specs.Copies.{copies_from, slot_of, AreStored, AreHeld, StandsFor}
-use Rattle.diff_area.specs.Format.{header_of, table_of, records_of, IsArea, part, layout_in, slots_in, volumes_in, stated_used, rows_in, good_at, row_count}
-use Rattle.diff_area.specs.Format.{HasHeader, pages_for, blocks_for, place_of_slot, AreVolumes, AreRecords, used_in}
+use Rattle.diff_area.specs.Format.{header_of, table_of, records_of, IsArea, part, layout_in, slots_in, volumes_in}
+use Rattle.diff_area.specs.Format.{pages_for, blocks_for, place_of_slot, AreVolumes, AreRecords}
 use Rattle.diff_area.specs.Loading.{IsReadFrom, AreRefused, AreLoaded, IsReadAlone, AreRead, RoseFor}
 use Rattle.diff_area.specs.ReadRows.{IsAccepted, IsTable, IsTableRefused}
 use Rattle.diff_area.specs.Refusals.{IsBadHeader, IsRefused}
@@ -71,14 +72,10 @@ size_of : (n size : ℕ) (bs : List (List ℕ)) → AreBlocks n bs → size ≡ 
 size_of n size bs h e = e ∙ ap (λ k. BLOCK * k) (sym h.number) ∙ sym (length-concat BLOCK bs (whole n bs h))
 
 header_is : (n m : ℕ) (bs : List (List ℕ)) (first : List ℕ) → AreBlocks n bs → first ≡ concat (take m (drop 0 bs)) → m ≡ min 1 n → first ≡ header_of (concat bs)
-header_is n m bs first h e f =
-    e ∙ ap (λ k. concat (take k bs)) (f ∙ ap (min 1) (sym h.number)) ∙ ap concat (take_min 1 bs)
-    ∙ sym (part-blocks BLOCK 0 1 0 BLOCK bs (whole n bs h) refl refl)
+header_is n m bs first h e f = grind (arith, common_steps, take_min 1 bs, part-blocks BLOCK 0 1 0 BLOCK bs (whole n bs h) refl refl, whole n bs h)
 
 table_is : (n : ℕ) (bs : List (List ℕ)) (table : List ℕ) (pages : ℕ) → AreBlocks n bs → table ≡ concat (take pages (drop 1 bs)) → pages ≡ pages_for (slots_in (header_of (concat bs))) → table ≡ table_of (concat bs)
-table_is n bs table pages h e f =
-    e ∙ sym (part-blocks BLOCK 1 pages BLOCK (BLOCK * pages) bs (whole n bs h) refl refl)
-    ∙ ap (λ k. part BLOCK (BLOCK * k) (concat bs)) f
+table_is n bs table pages h e f = grind (arith, common_steps, part-blocks BLOCK 1 pages BLOCK (BLOCK * pages) bs (whole n bs h) refl refl, whole n bs h)
 
 -- ## refusals
 
@@ -117,11 +114,9 @@ accepted None n m size pages first table h rows w r e s a t p b = tt
 accepted (Some bs) n m size pages first table h rows w r e s a t p b =
     let head = header_is n m bs first w r e in
     let body = table_is n bs table pages w t (pages_are bs first size pages h a head p) in
-    record {
-      area = is_area (concat bs) first table size h rows (size_of n size bs w s) head body a b;
-      volumes_are = a.fields.volumes ∙ ap volumes_in head;
-      records_are = are_records_of (concat bs) first table size h rows head body a b;
-    }
+    let fact = is_area (concat bs) first table size h rows (size_of n size bs w s) head body a b in
+    let fact1 = are_records_of (concat bs) first table size h rows head body a b in
+    grind (arith, common_steps, pages_are bs first size pages h a head p, size_of n size bs w s)
 
 -- what is kept of it
 pub loaded : (told : Option (List (List ℕ))) (n : ℕ) (h : Header) (rows : List Record) (t : Tables) → AreOfRecords h.volumes.items rows t → n ≡ blocks_for (length t.records.items) → AreVolumes h.volumes.items → AreRecords h.volumes.items rows → IfSome told (λ bs. IsReadFrom (concat bs) h.volumes.items rows) → IfSome told (AreBlocks n) → AreLoaded told n t
@@ -135,7 +130,7 @@ either b x y u v e f = grind arith
 -- the same slots hold the same copies
 pub same_copies : (slot : ℕ) (rows : List Record) (f g : ℕ → List ℕ) → ((i : ℕ) → slot ≤ i → i < slot + length rows → f i ≡ g i) → copies_from slot rows f ≡ copies_from slot rows g
 same_copies slot [] f g h = refl
-same_copies slot (r ∷ rs) f g h = let ih = same_copies (slot + 1) rs f g (λ i a b. h i (omega arith) (omega arith)) in grind (arith, common_steps, either)
+same_copies slot (r ∷ rs) f g h = grind (arith, common_steps, either, same_copies (slot + 1) rs f g (λ i a b. h i (omega arith) (omega arith)))
 
 length-records_of : (bytes : List ℕ) → length (records_of bytes) ≡ slots_in (header_of bytes)
 length-records_of bytes = length-rows_in (layout_in (header_of bytes)) (table_of bytes) (slots_in (header_of bytes))
@@ -159,15 +154,7 @@ length-front a b c d e f = simp length-append
 
 length-header : (volumes : List ℕ) (records : List Record) → length volumes ≤ 128 → length (header_bytes volumes records) ≡ BLOCK
 unfolding header_bytes
-length-header volumes records few =
-    let a = length-number_bytes 2 in
-    let b = length-number_bytes (length records) in
-    let c = length-number_bytes (used_in records) in
-    let d = length-number_bytes (length volumes) in
-    let e = length-numbers volumes in
-    let m = length-front (codes "VSSAREA1") (number_bytes 2) (number_bytes (length records)) (number_bytes (used_in records)) (number_bytes (length volumes)) (flat_map number_bytes volumes) in
-    let l : length (codes "VSSAREA1") ≡ 8 = refl in
-    length-padded (codes "VSSAREA1" ++ number_bytes 2 ++ number_bytes (length records) ++ number_bytes (used_in records) ++ number_bytes (length volumes) ++ flat_map number_bytes volumes) (omega arith)
+length-header volumes records few = grind (arith, common_steps, length-number_bytes, length-numbers, length-front, length-padded)
 
 table_whole : (volumes : List ℕ) (records : List Record) → length volumes ≤ 128 → AreOf BLOCK (table_blocks volumes records)
 unfolding table_blocks
@@ -197,7 +184,6 @@ new_blocks n bs volumes records w e few =
     let lt = length-table volumes records in
     let la = length-append t (drop (length t) bs) in
     let ld = length-drop (length t) bs in
-    let lb = w.number in
     record {
       number = omega arith;
       whole = to_all BLOCK (with_first t bs) (append_whole BLOCK t (drop (length t) bs) (table_whole volumes records few) (drop-whole BLOCK (length t) bs (are_of BLOCK bs w.whole)));
@@ -224,27 +210,10 @@ table_is_stored bs volumes records w =
 -- of bytes with this header and this table
 pub area_of_parts : (bytes : List ℕ) (volumes : List ℕ) (records : List Record) → AreVolumes volumes → AreRecords volumes records → length bytes ≡ BLOCK * blocks_for (length records) → header_of bytes ≡ header_bytes volumes records → table_of bytes ≡ table_bytes records → IsArea bytes × (records_of bytes ≡ records)
 area_of_parts bytes volumes records v r size h t =
-    let slots = ap slots_in h ∙ says_slots volumes records r.few in
-    let layout = ap layout_in h ∙ says_layout volumes records in
-    let vols = ap volumes_in h ∙ says_volumes volumes records v in
-    let recs =
-    ap (λ l. rows_in l (table_of bytes) (slots_in (header_of bytes))) layout
-    ∙ ap (λ x. rows_in 2 x (slots_in (header_of bytes))) t
-    ∙ ap (rows_in 2 (table_bytes records)) slots
-    ∙ says_records volumes records r
-    in (
-      record {
-        header = subst (HasHeader (length bytes)) (sym h) (header_valid (length bytes) volumes records v r.few size);
-        records = λ slot b.
-            ap (λ x. good_at x (slots_in (header_of bytes)) (layout_in (header_of bytes)) (table_of bytes) slot) vols
-            ∙ ap (λ x. good_at volumes x (layout_in (header_of bytes)) (table_of bytes) slot) slots
-            ∙ ap (λ x. good_at volumes (length records) x (table_of bytes) slot) layout
-            ∙ ap (λ x. good_at volumes (length records) 2 x slot) t
-            ∙ all_good volumes records slot r (let e = ap row_count slots in omega arith);
-        used = ap stated_used h ∙ says_used volumes records (used_few records r.few) ∙ ap used_in (sym recs);
-      },
-      recs,
-    )
+    let fact = header_valid (length bytes) volumes records v r.few size in
+    let fact1 = says_slots volumes records r.few in
+    let fact2 = says_volumes volumes records v in
+    grind (arith, common_steps, nat_tests, says_used, used_few, says_layout volumes records, says_records volumes records r, all_good volumes records)
 
 -- what is read of blocks once the table was written
 pub read_back : (n : ℕ) (bs : List (List ℕ)) (volumes : List ℕ) (records : List Record) → AreBlocks n bs → n ≡ blocks_for (length records) → AreVolumes volumes → AreRecords volumes records

@@ -1,5 +1,5 @@
 -- The table that is written says what it should.
-use Rattle.std.proofs.Common.{ℕ, zero, suc, ◌≡◌, ◌≢◌, ◌<◌, ◌≤◌, ◌+◌, ◌-◌, ◌*◌, ◌/◌, ◌%◌, ◌⊎◌, inl, inr, Bool, true, false, not, ◌==◌, nat_lt, List, [], ◌∷◌, ◌++◌, length, take, drop, map, replicate, Some, slice_get, slice_index_or, refl, sym, ap, subst, ◌∙◌, arith, lit<}
+use Rattle.std.proofs.Common.{ℕ, zero, suc, ◌≡◌, ◌≢◌, ◌<◌, ◌≤◌, ◌+◌, ◌-◌, ◌*◌, ◌/◌, ◌%◌, ◌⊎◌, inl, inr, Bool, true, false, not, ◌==◌, nat_lt, List, [], ◌∷◌, ◌++◌, length, take, drop, map, replicate, Some, slice_get, slice_index_or, refl, sym, ap, subst, ◌∙◌, arith}
 use Rattle.std.specs.List.{concat, flat_map, list_any, range_with_len}
 use Rattle.std.proofs.lemmas.Bool.Decides.{nat_tests}
 use Rattle.std.proofs.lemmas.List.{append_assoc, append-nil, length-append, length-take, length-drop, length-replicate, drop-append-le, take-append-le, drop_at, drop-drop, take_at, take-replicate, drop-replicate, get_or-take, get_or-drop, get_or_default, same_lists}
@@ -7,6 +7,8 @@ use Rattle.std.proofs.lemmas.List.Folds.{list_any_none}
 use Rattle.std.proofs.lemmas.List.Sums.{count_by-le-length}
 use Rattle.std.proofs.lemmas.Grind.{common_steps}
 use Rattle.std.proofs.lemmas.Bool.{and_from, or_right, false_from_ne_true}
+use Rattle.std.proofs.Common.{rules}
+use Rattle.std.proofs.lemmas.Option.{slice_get_within}
 use Rattle.block_data.specs.BlockBytes.{run_of}
 use Rattle.block_data.specs.declared.block_buf.TheConstants.{BLOCK}
 use Rattle.diff_area.specs.Format.{part, number_at, row_at, row_of, rows_in, has_zeros, is_used, is_same, is_sound, is_good, good_at, row_count, pages_for}
@@ -14,7 +16,6 @@ use Rattle.diff_area.specs.Format.{free, is_free, IsUsed, IsNarrow, AreRecords, 
 use Rattle.diff_area.specs.AreaValue.{number_bytes, record_bytes, padded, records_of_page, page_bytes}
 use Rattle.diff_area.specs.declared.table_record.Record.{Record}
 use Rattle.diff_area.proofs.HeaderBytes.{length-number_bytes, number-back}
-use Rattle.diff_area.proofs.ByPlace.{get-bound}
 use Rattle.diff_area.proofs.GoodRecords.{length-rows_in, free_is, get_or-rows_in}
 
 -- ## one record
@@ -41,8 +42,7 @@ at_third r h =
     let a = length-number_bytes r.set in
     let b = length-number_bytes r.block in
     let l = length-append (number_bytes r.set) (number_bytes r.block) in
-    number-back (number_bytes r.set ++ number_bytes r.block) (number_bytes 0 ++ []) (record_bytes r) 8 r.volume
-    (record_parts r ∙ sym (append_assoc (number_bytes r.set) (number_bytes r.block) (number_bytes r.volume ++ (number_bytes 0 ++ [])))) (omega arith) h
+    grind (arith, common_steps, number-back, record_parts, append_assoc)
 
 at_fourth : (r : Record) → number_at (record_bytes r) 12 ≡ 0
 at_fourth r =
@@ -51,10 +51,7 @@ at_fourth r =
     let c = length-number_bytes r.volume in
     let l = length-append (number_bytes r.set) (number_bytes r.block) in
     let m = length-append (number_bytes r.set ++ number_bytes r.block) (number_bytes r.volume) in
-    number-back (number_bytes r.set ++ number_bytes r.block ++ number_bytes r.volume) [] (record_bytes r) 12 0
-    (record_parts r
-    ∙ sym (append_assoc (number_bytes r.set) (number_bytes r.block) (number_bytes r.volume ++ (number_bytes 0 ++ [])))
-    ∙ sym (append_assoc (number_bytes r.set ++ number_bytes r.block) (number_bytes r.volume) (number_bytes 0 ++ []))) (omega arith) (lit< tt)
+    grind (arith, common_steps, number-back, record_parts, append_assoc)
 
 says_record : (r : Record) → IsNarrow r → row_of 2 (record_bytes r) ≡ r
 says_record r h = grind (arith, at_first, at_second, at_third)
@@ -87,14 +84,11 @@ row_in_run [] j n h = in_zeros (16 * j) n (omega arith)
 row_in_run (r ∷ rs) zero n h = grind (arith, common_steps, append_assoc, first_part, length-record_bytes)
 row_in_run (r ∷ rs) (suc j) n h =
     let e : 16 * suc j ≡ 16 * j + 16 = omega arith in
-    ap (λ k. part k 16 (record_bytes r ++ flat_map record_bytes rs ++ run_of n 0)) e
-    ∙ ap (part (16 * j + 16) 16) (append_assoc (record_bytes r) (flat_map record_bytes rs) (run_of n 0))
-    ∙ later_part (record_bytes r) (flat_map record_bytes rs ++ run_of n 0) (16 * j) (length-record_bytes r)
-    ∙ row_in_run rs j n (omega arith)
+    grind (arith, common_steps, append_assoc, length-record_bytes, later_part, row_in_run rs j n (omega arith))
 
 length-rows : (rs : List Record) → length (flat_map record_bytes rs) ≡ 16 * length rs
 length-rows [] = refl
-length-rows (r ∷ rs) = let ih = length-rows rs in grind (arith, common_steps, length-append, length-record_bytes)
+length-rows (r ∷ rs) = grind (arith, common_steps, length-append, length-record_bytes, length-rows rs)
 
 row_in_padded : (rs : List Record) (j : ℕ) → j < 1024 → length rs ≤ 1024 → part (16 * j) 16 (padded (flat_map record_bytes rs)) ≡ record_bytes (slice_index_or rs j free)
 unfolding padded
@@ -132,21 +126,14 @@ part_of_front x rest at len h = grind (arith, length-drop, drop-append-le, take-
 
 part_past : (x rest : List ℕ) (at len n : ℕ) → length x ≡ n → part (at + n) len (x ++ rest) ≡ part at len rest
 unfolding part
-part_past x rest at len n h =
-    let e : at + n ≡ n + at = omega arith in
-    ap (take len) (ap (λ k. drop k (x ++ rest)) e ∙ sym (drop-drop at n (x ++ rest)) ∙ ap (drop at) (drop_at x rest n h))
+part_past x rest at len n h = grind (arith, common_steps, drop_at x rest n h)
 
 -- a part of one of the pages
 part_of_pages : (n : ℕ) (f : ℕ → List ℕ) (a p k at len : ℕ) → ((i : ℕ) → length (f i) ≡ n) → k < p → at + len ≤ n → part (n * k + at) len (concat (map f (range_with_len a p))) ≡ part at len (f (a + k))
 part_of_pages n f a zero k at len h b c = absurd (omega arith)
 part_of_pages n f a (suc p) zero at len h b c = grind (arith, common_steps, part_of_front)
 part_of_pages n f a (suc p) (suc k) at len h b c =
-    let e : n * suc k + at ≡ n * k + at + n = grind arith in
-    let g : a + 1 + k ≡ a + suc k = omega arith in
-    ap (λ j. part j len (f a ++ concat (map f (range_with_len (a + 1) p)))) e
-    ∙ part_past (f a) (concat (map f (range_with_len (a + 1) p))) (n * k + at) len n (h a)
-    ∙ part_of_pages n f (a + 1) p k at len h (omega arith) c
-    ∙ ap (λ j. part at len (f j)) g
+    grind (arith, common_steps, part_of_pages n f (a + 1) p k, part_past (f a) (concat (map f (range_with_len (a + 1) p))) (n * k + at) len n (h a))
 
 -- the record of a slot
 pub row_written : (records : List Record) (slot : ℕ) → slot < row_count (length records) → row_at (concat (map (page_bytes records) (range_with_len 0 (pages_for (length records))))) slot ≡ record_bytes (slice_index_or records slot free)
@@ -154,13 +141,8 @@ unfolding row_at
 row_written records slot h =
     let k = slot / 1024 in
     let j = slot % 1024 in
-    let e : 16 * slot ≡ BLOCK * k + 16 * j = omega arith in
-    let table = concat (map (page_bytes records) (range_with_len 0 (pages_for (length records)))) in
-    let i : 1024 * (0 + k) + j ≡ slot = omega arith in
-    ap (λ at. part at 16 table) e
-    ∙ part_of_pages BLOCK (page_bytes records) 0 (pages_for (length records)) k (16 * j) 16 (length-page records) (omega arith) (omega arith)
-    ∙ row_of_page records (0 + k) j (omega arith)
-    ∙ ap (λ s. record_bytes (slice_index_or records s free)) i
+    let fact = part_of_pages BLOCK (page_bytes records) 0 (pages_for (length records)) k (16 * j) 16 (length-page records) (omega arith) (omega arith) in
+    grind (arith, common_steps, length-page records, row_of_page records (0 + k) j (omega arith))
 
 -- ## all records
 
@@ -180,23 +162,17 @@ row_or_free (r ∷ rs) zero = inl refl
 row_or_free (r ∷ rs) (suc slot) = row_or_free rs slot
 
 narrow_at : (volumes : List ℕ) (records : List Record) (slot : ℕ) → AreRecords volumes records → IsNarrow (slice_index_or records slot free)
-narrow_at volumes records slot h =
-    elim (row_or_free records slot) [
-      | inl p ↦ h.narrow slot (slice_index_or records slot free) p
-      | inr p ↦ subst IsNarrow (sym p) (record { set = lit< tt; block = lit< tt; volume = lit< tt })
-    ]
+narrow_at volumes records slot h = grind (arith, common_steps, row_or_free records slot)
 
 says_row : (volumes : List ℕ) (records : List Record) (slot : ℕ) → AreRecords volumes records → slot < row_count (length records) → row_of 2 (row_at (table_bytes records) slot) ≡ slice_index_or records slot free
-says_row volumes records slot h b = ap (row_of 2) (row_written records slot b) ∙ says_record (slice_index_or records slot free) (narrow_at volumes records slot h)
+says_row volumes records slot h b = search (rules, row_written, says_record, narrow_at)
 
 -- the records that are read of it are those that were written
 pub says_records : (volumes : List ℕ) (records : List Record) → AreRecords volumes records → rows_in 2 (table_bytes records) (length records) ≡ records
 says_records volumes records h =
     let long = length-rows_in 2 (table_bytes records) (length records) in
-    same_lists (rows_in 2 (table_bytes records) (length records)) records long (λ k d b.
-    get_or-rows_in 2 (table_bytes records) (length records) k d (omega arith)
-    ∙ says_row volumes records k h (omega arith)
-    ∙ get_or_default records k free d (omega arith))
+    let fact = same_lists (rows_in 2 (table_bytes records) (length records)) records long in
+    grind (arith, common_steps, get_or-rows_in 2 (table_bytes records) (length records), says_row volumes records, get_or_default records)
 
 is_used_by : (volumes : List ℕ) (r : Record) → IsUsed volumes r → is_used volumes r ≡ true
 is_used_by volumes r h = grind arith
@@ -239,7 +215,7 @@ one_good volumes records slot r false h b z is (inl g) t =
     let table = table_bytes records in
     let row = row_at table slot in
     let n : r ≢ free = λ e. false_is_not_true (sym t ∙ ap is_free e) in
-    let bound = get-bound records slot r g in
+    let bound = slice_get_within records slot r g in
     let used = subst (IsUsed volumes) (sym is) (h.each slot r g n) in
     let P : Record → Type 0 = λ x. list_any (is_same x) (rows_in 2 table slot) ≡ false in
     good_used volumes (length records) slot row (rows_in 2 table slot) (sound_used volumes (length records) slot row z used bound) (subst P (sym is) (none_before volumes records slot r h b g n))

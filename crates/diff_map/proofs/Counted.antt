@@ -1,6 +1,6 @@
 -- What a map keeps beside its copies: where an image is cut, a slot is noted or loses its copy, and images go.
 use Rattle.std.proofs.Common.{ℕ, ◌≡◌, ◌≢◌, ◌+◌, ◌-◌, ◌<◌, ◌≤◌, ◌^◌, ◌++◌, inl, inr, List, [], ◌∷◌, length, get_or, set, map, Option, Some, None, refl, ap, sym}
-use Rattle.std.proofs.Common.{◌∙◌, subst, arith, All, Contains, Vec, vec_capacity, Bool, true, false, cond, ltb, leb, eqb, not, drop, take}
+use Rattle.std.proofs.Common.{◌∙◌, subst, arith, All, Contains, Vec, vec_capacity, Bool, true, ltb, leb, eqb, not, drop, take}
 use Rattle.std.proofs.Math.Seq.{map-set_same}
 use Rattle.std.proofs.lemmas.Bool.{cases_eq, cases_lt}
 use Rattle.std.proofs.lemmas.Bool.Decides.{nat_tests}
@@ -12,6 +12,7 @@ use Rattle.std.proofs.lemmas.Option.{same_Some, none-some, slice_get_within, get
 use Rattle.std.specs.List.{slice_get, AllPairs, filter, remove, AllWithin}
 use Rattle.std.specs.Prelude.{IfSome}
 use Rattle.std.specs.declared.alloc.Global.{Global}
+use Rattle.std.proofs.lemmas.Grind.{common_steps}
 use Rattle.diff_map.specs.Copies.{copied_at, copy_of, AreImages, KeepsImages}
 use Rattle.diff_map.specs.Counts.{is_for, used_for, IsFor, IsChain, IsCounted, KeepsCounts, IsOldestUsed, IsFirstUsed}
 use Rattle.diff_map.specs.declared.copied.Copied.{Copied}
@@ -82,11 +83,7 @@ pub noted_other : (next : List ℕ) (copies : List (Option Copied)) (slot image 
 noted_other next copies slot image block value unnoted c apart is =
     let none = get_or_from_slice_get copies slot None None unnoted in
     let inside = slice_get_within copies slot None unnoted in
-    record {
-      used = is.used ∙ sym (used_noted_other copies slot image block c.set unnoted apart);
-      chain = IsChain-other next copies c.set c.first slot value (Some (copy_of image block)) (not_for copies c.set slot none)
-          (λ it. apart (ap (λ (x : Copied). x.set) (same_Some (copy_of c.set it.0) (copy_of image block) (sym it.1 ∙ get_or-set_same copies slot (Some (copy_of image block)) None inside)))) is.chain;
-    }
+    grind (arith, common_steps, used_noted_other, IsChain-other, not_for, same_Some, get_or-set_same)
 
 pub noted_here : (next : List ℕ) (copies : List (Option Copied)) (slot image block : ℕ) (c : ImageCount) → slice_get copies slot ≡ Some None → length next ≡ length copies → c.set ≡ image
     → IsCounted next copies c
@@ -96,10 +93,8 @@ noted_here next copies slot image block c unnoted long set_is is = grind (arith,
 -- a slot that is not noted leaves room for one more
 pub one_more_fits : (copies : List (Option Copied)) (slot image : ℕ) → length copies < 2 ^ 32 → slice_get copies slot ≡ Some None → used_for copies image + 1 < 2 ^ 32
 one_more_fits copies slot image narrow unnoted =
-    let now = used_noted copies slot image 0 unnoted in
-    let most = count_by-le-length (is_for image) (set copies slot (Some (copy_of image 0))) in
-    let long = length-set copies slot (Some (copy_of image 0)) in
-    omega arith
+    let fact = count_by-le-length (is_for image) (set copies slot (Some (copy_of image 0))) in
+    grind (arith, common_steps, used_noted copies slot image 0 unnoted, length-set copies slot (Some (copy_of image 0)))
 
 -- a row that changes keeps the images, if it is of one of them
 pub KeepsImages-set : (images : Vec ℕ Global) (copies : List (Option Copied)) (slot : ℕ) (row : Option Copied) → KeepsImages images copies → IfSome row (λ c. Contains images.items c.set)
@@ -111,13 +106,7 @@ KeepsImages-set images copies slot row keeps ok = grind (arith, cases_eq, get_or
 pub popped_other : (next : List ℕ) (copies : List (Option Copied)) (slot image block : ℕ) → copied_at copies slot ≡ Some (copy_of image block) → (c : ImageCount) → c.set ≢ image
     → IsCounted next copies c → IsCounted next (set copies slot None) c
 popped_other next copies slot image block was c apart is =
-    let inside = get_within copies slot (copy_of image block) was in
-    record {
-      used = is.used ∙ sym (used_out_other copies slot image block c.set was apart);
-      chain = IsChain-other_out next copies c.set c.first slot None
-          (λ it. apart (ap (λ (x : Copied). x.set) (same_Some (copy_of c.set it.0) (copy_of image block) (sym it.1 ∙ was))))
-          (not_for (set copies slot None) c.set slot (get_or-set_same copies slot None None inside)) is.chain;
-    }
+    grind (arith, common_steps, get_within, used_out_other, IsChain-other_out, same_Some, not_for, get_or-set_same)
 
 pub popped_here : (next : List ℕ) (copies : List (Option Copied)) (image block value : ℕ) (c : ImageCount) → copied_at copies c.first ≡ Some (copy_of image block) → c.set ≡ image
     → value ≡ get_or next c.first 0 → IsCounted next copies c
@@ -127,7 +116,6 @@ popped_here next copies image block value c was set_is value_is is = grind (arit
 -- the first slot of an image that has a copy
 pub first_for : (next : List ℕ) (copies : List (Option Copied)) (image : ℕ) (c : ImageCount) → c.set ≡ image → IsCounted next copies c → 0 < c.used → IsFor copies image c.first
 first_for next copies image c set_is is some =
-    let used = is.used in
     let same : used_for copies c.set ≡ used_for copies image = ap (used_for copies) set_is in
     IsFor-first next copies image c.first (subst (λ s. IsChain next copies s c.first) set_is is.chain) (omega arith)
 
@@ -157,7 +145,6 @@ module _ (images : Vec ℕ Global) (counts : Vec ImageCount Global) (next : List
       → newer.items ≡ set counts.items n (record { set = image; used = count.used - 1; first = value }) → vec_capacity counts ≤ vec_capacity newer
       → KeepsCounts images newer next (set copies count.first None)
   KeepsCounts-popped newer block value was value_is items cap =
-      let long = keeps.long in
       let long_copies = length-set copies count.first None in
       KeepsCounts-one images counts newer next next copies (set copies count.first None) image n (record { set = image; used = count.used - 1; first = value })
       keeps index.are_images.ascend inside is items cap refl (omega arith) (popped_here next copies image block value count was count_is.0 value_is count_is.1)
@@ -239,7 +226,6 @@ oldest_found (Some image) images counts next copies index keeps first =
           let within = there.1 in
           elim (cases_lt there.0 first.place) [
             | inl before ↦
-                let zero : (get_or counts.items there.0 first.count).used ≡ 0 = first.none_before there.0 first.count (omega arith) before in
                 let same : (get_or counts.items there.0 first.count).set ≡ c.set = set_at images.items counts.items there.0 first.count keeps.sets (omega arith)
                 ∙ get_or_default images.items there.0 0 c.set within ∙ is in
                 let number = (keeps.each there.0 first.count (omega arith)).used in
@@ -264,7 +250,6 @@ none_used images counts next copies index keeps zero slot = by_row (copied_at co
       let within = there.1 in
       let is : get_or images.items there.0 c.set ≡ c.set = there.2 in
       let long = as_many images.items counts.items keeps.sets in
-      let none : (get_or counts.items there.0 none_of).used ≡ 0 = zero there.0 none_of (omega arith) in
       let same : (get_or counts.items there.0 none_of).set ≡ c.set = set_at images.items counts.items there.0 none_of keeps.sets (omega arith) ∙ get_or_default images.items there.0 0 c.set within
       ∙ is in
       let number = (keeps.each there.0 none_of (omega arith)).used in
@@ -276,13 +261,7 @@ none_used images counts next copies index keeps zero slot = by_row (copied_at co
 
 sets-filter : (p : ℕ → Bool) (counts : List ImageCount) → sets_of (filter (λ c. p c.set) counts) ≡ filter p (sets_of counts)
 sets-filter p [] = refl
-sets-filter p (c ∷ cs) = by_test (p c.set) refl (sets-filter p cs) where
-  by_test : (t : Bool) → p c.set ≡ t → sets_of (filter (λ c. p c.set) cs) ≡ filter p (sets_of cs)
-      → sets_of (cond (p c.set) (c ∷ filter (λ c. p c.set) cs) (filter (λ c. p c.set) cs)) ≡ cond (p c.set) (c.set ∷ filter p (sets_of cs)) (filter p (sets_of cs))
-  by_test true e rest = ap (λ b. sets_of (cond b (c ∷ filter (λ c. p c.set) cs) (filter (λ c. p c.set) cs))) e ∙ ap (λ xs. c.set ∷ xs) rest
-      ∙ sym (ap (λ b. cond b (c.set ∷ filter p (sets_of cs)) (filter p (sets_of cs))) e)
-  by_test false e rest = ap (λ b. sets_of (cond b (c ∷ filter (λ c. p c.set) cs) (filter (λ c. p c.set) cs))) e ∙ rest
-      ∙ sym (ap (λ b. cond b (c.set ∷ filter p (sets_of cs)) (filter p (sets_of cs))) e)
+sets-filter p (c ∷ cs) = grind (arith, common_steps, sets-filter p cs)
 
 pub KeepsCounts-left : (p : ℕ → Bool) (images later : Vec ℕ Global) (counts left : Vec ImageCount Global) (next : List ℕ) (copies : List (Option Copied)) → KeepsCounts images counts next copies
     → later.items ≡ filter p images.items → left.items ≡ filter (λ c. p c.set) counts.items → vec_capacity left ≡ vec_capacity counts → KeepsCounts later left next copies

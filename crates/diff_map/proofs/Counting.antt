@@ -38,18 +38,14 @@ is_no_other image other apart = grind (arith, nat_tests)
 -- a slot is noted for an image
 pub used_noted : (copies : List (Option Copied)) (slot image block : ℕ) → slice_get copies slot ≡ Some None → used_for (set copies slot (Some (copy_of image block))) image ≡ used_for copies image + 1
 used_noted copies slot image block unnoted =
-    let moved = used_set copies slot image (Some (copy_of image block)) (slice_get_within copies slot None unnoted) in
-    let was : of_test (is_for image (copied_at copies slot)) ≡ 0 = ap (λ (o : Option Copied). of_test (is_for image o)) (get_or_from_slice_get copies slot None None unnoted) in
-    let now = is_itself image block in
-    omega arith
+    let fact = used_set copies slot image (Some (copy_of image block)) (slice_get_within copies slot None unnoted) in
+    grind (arith, common_steps, slice_get_within copies slot None unnoted, get_or_from_slice_get copies slot None None unnoted, is_itself image block)
 
 pub used_noted_other : (copies : List (Option Copied)) (slot image block other : ℕ) → slice_get copies slot ≡ Some None → other ≢ image
     → used_for (set copies slot (Some (copy_of image block))) other ≡ used_for copies other
 used_noted_other copies slot image block other unnoted apart =
-    let moved = used_set copies slot other (Some (copy_of image block)) (slice_get_within copies slot None unnoted) in
-    let was : of_test (is_for other (copied_at copies slot)) ≡ 0 = ap (λ (o : Option Copied). of_test (is_for other o)) (get_or_from_slice_get copies slot None None unnoted) in
-    let now : of_test (is_for other (Some (copy_of image block))) ≡ 0 = ap of_test (is_no_other image other (λ e. apart (sym e))) in
-    omega arith
+    let fact = used_set copies slot other (Some (copy_of image block)) (slice_get_within copies slot None unnoted) in
+    grind (arith, common_steps, slice_get_within copies slot None unnoted, get_or_from_slice_get copies slot None None unnoted, is_no_other image other)
 
 -- no slot is noted for it
 pub used_none : (copies : List (Option Copied)) (image : ℕ) → ((slot : ℕ) (c : Copied) → copied_at copies slot ≡ Some c → c.set ≢ image) → used_for copies image ≡ 0
@@ -103,21 +99,14 @@ noted_less copies slot c was = grind (arith, noted_set, get_within)
 
 pub noted_fits : (copies : List (Option Copied)) (slot : ℕ) (c : Copied) → length copies < 2 ^ 32 → slice_get copies slot ≡ Some None → noted_in copies + 1 < 2 ^ 32
 noted_fits copies slot c narrow unnoted =
-    let now = noted_more copies slot c unnoted in
-    let most = count_by-le-length is_some (set copies slot (Some c)) in
-    let long = length-set copies slot (Some c) in
-    omega arith
+    grind (arith, common_steps, noted_more copies slot c unnoted, count_by-le-length is_some (set copies slot (Some c)), length-set copies slot (Some c))
 
 -- ## The slots of an image, one after the other: where one comes first, and where the first goes.
 
 -- another slot's link does not count
 pub lead_on_set : (next : List ℕ) (slot value first : ℕ) (slots : List ℕ) → (IsAmong slot slots → ⊥) → LeadOn next first slots → LeadOn (set next slot value) first slots
 lead_on_set next slot value first [] apart lead = lead
-lead_on_set next slot value first (x ∷ xs) apart lead = (
-  lead.0,
-  subst (λ k. LeadOn (set next slot value) k xs) (sym (get_or-set_other next slot x value 0 (λ same. apart (inl (sym same)))))
-      (lead_on_set next slot value (get_or next x 0) xs (λ among. apart (inr among)) lead.1),
-)
+lead_on_set next slot value first (x ∷ xs) apart lead = grind (arith, common_steps, get_or-set_other, lead_on_set next slot value (get_or next x 0) xs)
 
 pub not_for : (copies : List (Option Copied)) (image slot : ℕ) → copied_at copies slot ≡ None → IsFor copies image slot → ⊥
 not_for copies image slot none it = none-some (copy_of image it.0) (sym none ∙ it.1)

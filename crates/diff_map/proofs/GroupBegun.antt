@@ -7,10 +7,8 @@ use Rattle.std.proofs.lemmas.List.Elements.{All-append, All-cons, All-nil}
 use Rattle.std.proofs.lemmas.List.Quantifiers.{all_pairs_push}
 use Rattle.std.proofs.lemmas.Grind.{common_steps}
 use Rattle.diff_map.specs.declared.copied.Copied.{Copied}
-use Rattle.diff_map.specs.declared.image_count.ImageCount.{ImageCount}
 use Rattle.diff_map.specs.declared.of_volume.OfVolume.{OfVolume}
-use Rattle.diff_map.specs.Copies.{copied_at, noted_in, MapValue, AreImages, KeepsImages}
-use Rattle.diff_map.specs.Counts.{IsCounted, KeepsCounts}
+use Rattle.diff_map.specs.Copies.{copied_at, noted_in, MapValue, AreImages}
 use Rattle.diff_map.specs.Groups.{new_map, Part, part_of, map_of, AreParts, KeepsVolume, KeepsGroup, IsEmpty}
 use Rattle.diff_map.proofs.Grouped.{own_none}
 
@@ -28,21 +26,7 @@ no_images = record { ascend = λ i j d lt inside. absurd (omega arith); above_ze
 
 KeepsVolume-empty : (slots base blocks : ℕ) (volume : OfVolume) → IsEmpty base blocks volume → KeepsVolume (replicate slots 0) (none_of slots) volume
 KeepsVolume-empty slots base blocks volume empty =
-    let none = own_none (part_of volume) slots in
-    record {
-      images = subst (KeepsImages volume.images) (sym none) (record {
-        are_images = subst AreImages (sym empty.images) no_images;
-        of_images = λ slot c is. absurd (none_at slots slot c is);
-        image_room = empty.image_room;
-      });
-      counts = subst (KeepsCounts volume.images volume.counts (replicate slots 0)) (sym none) (record {
-        sets = ap (λ (cs : List ImageCount). map (λ c. c.set) cs) empty.counts ∙ sym empty.images;
-        each = subst (All (IsCounted (replicate slots 0) (none_of slots))) (sym empty.counts) (All-nil (IsCounted (replicate slots 0) (none_of slots)));
-        count_room = empty.count_room;
-        long = length-replicate slots 0 ∙ sym (length-replicate slots None);
-      });
-      used = empty.used ∙ sym (none_noted slots) ∙ ap noted_in (sym none);
-    }
+    let none = own_none (part_of volume) slots in grind (arith, common_steps, no_images, none_at, length-replicate, none_noted)
 
 last_of : (parts : List Part) (new p : Part) → get_or (parts ++ new ∷ []) (length parts) p ≡ new
 last_of parts new p = grind (arith, common_steps)

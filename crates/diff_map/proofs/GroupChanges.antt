@@ -1,10 +1,11 @@
 -- A volume of a group, and what its maps keep where a slot is noted, loses its copy or goes to the next older image, and where its images change.
 use Rattle.std.proofs.Common.{ℕ, ◌≡◌, ◌≢◌, ◌+◌, ◌-◌, ◌<◌, ◌≤◌, inl, inr, List, length, get_or, set, map, Option, Some, None, refl, ap, sym, ◌∙◌, subst, arith}
-use Rattle.std.proofs.Common.{Contains, Vec, vec_capacity, slice_get, ◌^◌}
+use Rattle.std.proofs.Common.{Contains, Vec, vec_capacity, slice_get, ◌^◌, rules}
 use Rattle.std.proofs.lemmas.Bool.{cases_eq, false≢true}
 use Rattle.std.proofs.lemmas.List.{get_or-map, get_or-set_same, get_or-set_other, get_or_default, length-map, length-set, set-get_or, set-set}
 use Rattle.std.proofs.lemmas.Option.{get_or_from_slice_get, slice_get_read, slice_get_within, none-some}
 use Rattle.std.specs.declared.alloc.Global.{Global}
+use Rattle.std.proofs.lemmas.Grind.{common_steps}
 use Rattle.diff_map.specs.Copies.{copied_at, copy_of, noted_in, HasCopy, MapValue, KeepsImages}
 use Rattle.diff_map.specs.Counts.{KeepsCounts}
 use Rattle.diff_map.specs.Groups.{map_at, with_images, with_row, IsOnlyAt, IsUnnoted, IsGivenDown, part_of, own, own_copies, map_of, KeepsVolume, KeepsGroup}
@@ -155,9 +156,7 @@ module _ {blocks : ℕ} {volumes : List OfVolume} {next : List ℕ} {copies : Li
 
     pub maps_noted : (used : ℕ) (newer : Vec ImageCount Global)
         → map (map_of (set copies slot row)) (set volumes v (with_lists volume used volume.images newer)) ≡ set maps v (with_row slot (Some (copy_of image block)) (map_at maps v))
-    maps_noted used newer = maps_after copies (set copies slot row) volumes maps v (with_lists volume used volume.images newer) (with_row slot (Some (copy_of image block)) (map_at maps v)) at.view
-        (ap (with_copies_of volume) mine ∙ ap (with_row slot (Some (copy_of image block))) (sym here))
-        (λ u d differ low_u. own_same (part_of (get_or volumes u d)) copies slot row (not_before u d) (not_after u d differ low_u))
+    maps_noted used newer = search (rules, maps_after, mine, here, own_same, not_before, not_after)
 
   -- ## the first slot of one of its images loses its copy
 
@@ -218,12 +217,7 @@ module _ {blocks : ℕ} {volumes : List OfVolume} {next : List ℕ} {copies : Li
 
   -- the group without the copy
   at_out : IsAt blocks volumes_out next copies_out (map (map_of copies_out) volumes_out) v (vol_out volume newer)
-  at_out = record {
-    keeps = KeepsGroup-popped at n count inside read some newer value value_is items cap;
-    view = refl;
-    inside = let l = length-map volumes_out (map_of copies_out) in let k = length-set volumes v (vol_out volume newer) in let w = within at in omega arith;
-    is = sym (get_or-set_same volumes v (vol_out volume newer) (vol_out volume newer) (within at));
-  }
+  at_out = search (rules, KeepsGroup-popped, length-map, length-set, within, get_or-set_same)
 
   low : (first at n count inside read some).0 < volume.blocks
   low = (first_own at n count inside read some).low
@@ -257,13 +251,7 @@ module _ {blocks : ℕ} {volumes : List OfVolume} {next : List ℕ} {copies : Li
         let row = Some (copy_of image (volume.base + it.0)) in
         let noted = KeepsGroup-noted at_out image it.0 count.first low unnoted m older last contains inside_m is_m read_m items_m cap_m in
         let less = noted_less (own_copies volume copies) count.first (copy_of count.set it.0) it.1 in
-        let positive : volume.used - 1 + 1 ≡ volume.used = omega arith in
-        subst (λ x. KeepsGroup blocks (set volumes v (with_lists volume volume.used volume.images last)) (set next count.first older.first) (rows_given x)) b_is
-        (subst (λ (cs : List (Option Copied)). KeepsGroup blocks (set volumes v (with_lists volume volume.used volume.images last)) (set next count.first older.first) cs)
-        (set-set copies count.first None row)
-        (subst (λ (vs : List OfVolume). KeepsGroup blocks vs (set next count.first older.first) (set copies_out count.first row))
-        (set-set volumes v (vol_out volume newer) (with_lists volume volume.used volume.images last))
-        (subst (λ k. KeepsGroup blocks (set volumes_out v (with_lists volume k volume.images last)) (set next count.first older.first) (set copies_out count.first row)) positive noted)))
+        let positive : volume.used - 1 + 1 ≡ volume.used = omega arith in grind (arith, common_steps, first, set-set)
 
     abbrev map_out : MapValue
     map_out = with_row count.first None (map_at maps v)

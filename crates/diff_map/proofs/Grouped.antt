@@ -137,10 +137,7 @@ module _ (blocks : ℕ) (volumes : List OfVolume) (next : List ℕ) (copies : Li
   part_here v d inside = get_or-map part_of volumes v d (part_of d) inside
 
   pub part_fits : (v : ℕ) (volume : OfVolume) → v < length volumes → volume ≡ get_or volumes v volume → volume.base + volume.blocks ≤ blocks
-  part_fits v volume inside is =
-      let l = length-map volumes part_of in
-      let fits = keeps.parts.within v (part_of volume) (omega arith) in
-      subst (λ (p : Part). p.base + p.blocks ≤ blocks) (part_here v volume inside ∙ ap part_of (sym is)) fits
+  part_fits v volume inside is = grind (arith, common_steps, part_here v volume inside)
 
   pub parts_apart : (v u : ℕ) (d : OfVolume) → v < length volumes → u < length volumes → u ≢ v → AreApart (part_of (get_or volumes v d)) (part_of (get_or volumes u d))
   parts_apart v u d inside within differ =

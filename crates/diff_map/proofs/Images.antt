@@ -1,6 +1,6 @@
 -- The images of a volume in order of their sets: the next older one, what is left where some go, and that the others find what they found.
 use Rattle.std.proofs.Common.{ℕ, zero, suc, ◌≡◌, ◌≢◌, ◌<◌, ◌≤◌, ◌^◌, ◌⊎◌, inl, inr, Bool, true, false, cond, eqb, leb, ltb, not, List, [], ◌∷◌, length, get_or}
-use Rattle.std.proofs.Common.{take, drop, ◌-◌, Option, Some, None, refl, ap, sym, ◌∙◌, subst, arith, All, Contains}
+use Rattle.std.proofs.Common.{take, drop, ◌-◌, Option, Some, None, refl, ap, sym, ◌∙◌, arith, All, Contains, rules}
 use Rattle.std.proofs.lemmas.Bool.{cases_eq, cases_lt, lt-ltb, le-ltb, cases_Bool}
 use Rattle.std.proofs.lemmas.Bool.Decides.{nat_tests}
 use Rattle.std.proofs.lemmas.Grind.{common_steps}
@@ -66,10 +66,7 @@ walk_answers set start (x ∷ xs) =
 
 -- the next older image is one of the images, and below the set
 pub next_older_is : (images : List ℕ) (set older : ℕ) → next_older images set ≡ Some older → (older < set) × Contains images older
-next_older_is images set older is = elim (walk_answers set None images) [
-  | inl kept ↦ absurd (none-some older (sym kept ∙ is))
-  | inr took ↦ let same : took.0 ≡ older = same_Some took.0 older (sym took.1 ∙ is) in subst (λ n. (n < set) × Contains images n) same (took.2, took.3)
-]
+next_older_is images set older is = grind (arith, common_steps, walk_answers set None images, none-some older)
 
 -- and no image below the set is above it
 walk_reaches : (set : ℕ) (start : Option ℕ) (images : List ℕ) → AllPairs (λ s t. s < t) images → (k d : ℕ) → k < length images → get_or images k d < set
@@ -100,7 +97,6 @@ none_before_oldest images up some = elim (walk_answers (get_or images 0 0) None 
   | inl kept ↦ kept
   | inr took ↦
       let at = took.3 in
-      let is : get_or images at.0 took.0 ≡ took.0 = at.2 in
       let low : took.0 < get_or images 0 0 = took.2 in
       let first : get_or images 0 0 ≡ get_or images 0 took.0 = get_or_default images 0 0 took.0 some in
       absurd (elim (cases_eq at.0 0) [
@@ -266,7 +262,6 @@ module _ (copies : List (Option Copied)) (images : List ℕ) (image : ℕ) (are 
           no_nearer asked block slot newer f k before.0 before.1 (merged_from copies (next_older images image) image before.0 (copy_of newer block) before.2) le apart;
     }
     | inl same ↦
-        let asked_reached = f.reached in
         let next = next_older_reaches images image asked are.ascend at (omega arith) in
         let below = (next_older_is images image next.0 next.1).0 in
         let lacks : has_copy copies next.0 block ≡ false = elim (cases_Bool (has_copy copies next.0 block)) [
@@ -290,7 +285,4 @@ module _ (copies : List (Option Copied)) (images : List ℕ) (image : ℕ) (are 
       absent slot before.0.set (row_of slot block before.0 before.1 was.0) was.1
 
   pub merge_finds : (blocks : ℕ) (left : List ℕ) → KeepsFinds (record { blocks = blocks; images = images; copies = copies }) (record { blocks = blocks; images = left; copies = rows }) image
-  merge_finds blocks left = record {
-    found = merge_found;
-    absent = λ asked block at other. merge_absent asked block;
-  }
+  merge_finds blocks left = search (rules, merge_found, merge_absent)

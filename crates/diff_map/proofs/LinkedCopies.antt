@@ -1,7 +1,7 @@
 -- What the rows of copies stand for, as contracts see it, also where a copy gets a lesser set or is taken out.
 use Rattle.std.proofs.Common.{ℕ, zero, suc, ◌≡◌, ◌≢◌, ◌<◌, ◌≤◌, ◌^◌, ◌-◌, inl, inr, ◌∙◌, ◌∷◌, List, Option, Some, None, length, map, set, replicate, refl, ap}
-use Rattle.std.proofs.Common.{sym, subst, arith, get_or, ◌⊎◌}
-use Rattle.std.proofs.lemmas.Bool.{cases_lt, false≢true, cases_eq}
+use Rattle.std.proofs.Common.{sym, subst, arith, get_or, ◌⊎◌, rules}
+use Rattle.std.proofs.lemmas.Bool.{cases_lt, cases_eq}
 use Rattle.std.proofs.lemmas.Bool.Decides.{nat_tests}
 use Rattle.std.proofs.lemmas.Grind.{common_steps}
 use Rattle.std.proofs.lemmas.List.{map-set, set-get_or, length-map, length-replicate, length-set, get_or-set_same, get_or-set_other, get_or_read}
@@ -73,7 +73,6 @@ found_in rows asked block slot next = record {
       let it = has_from_copy rows other newer block is in
       let same = it.set_is in
       let u = it.used in
-      let low = next.next other (u, it.block_is) (omega arith) in
       omega arith;
 }
 
@@ -90,9 +89,7 @@ found_from rows asked low block result is next = grind (arith, found_in)
 pub none_from : (newest : List ℕ) (rows : List Row) (asked low block : ℕ) (result : Option ℕ) → KeepsLinks newest rows → low ≡ asked - 1 → IsNextAbove rows block low result
     → IsNone result ↔ IsAbsent (map copy_in rows) asked block
 none_from newest rows asked low block None keeps is next = (λ _. absent_in rows asked block keeps.narrow_sets (subst (λ k. IsNextAbove rows block k None) is next), λ _. refl)
-none_from newest rows asked low block (Some slot) keeps is next =
-    let found = found_in rows asked block slot (subst (λ k. IsNextAbove rows block k (Some slot)) is next) in
-    (λ none. absurd (false≢true (sym none)), λ absent. absurd (absent slot found.image found.noted found.reached))
+none_from newest rows asked low block (Some slot) keeps is next = grind (arith, common_steps, found_in rows asked block slot)
 
 -- ## the value afterwards
 
@@ -192,10 +189,7 @@ module _ (newest : List ℕ) (rows : List Row) (slot low : ℕ) (keeps : KeepsLi
   lt_after b other from has is_from lt = grind (arith, cases_eq, set_here, set_there, set_is, free_of)
 
   le_after : (b other q : ℕ) → HasBlock rows b other → HasBlock rows b q → (row_at rows other).set ≤ (row_at rows q).set → (row_at rows_now other).set ≤ (row_at rows_now q).set
-  le_after b other q has q_has le = elim (cases_lt (row_at rows other).set (row_at rows q).set) [
-    | inl lt ↦ let now = lt_after b other (Some q) has q_has lt in omega arith
-    | inr ge ↦ let one = keeps.once other q has.0 (q_has.0, q_has.1 ∙ sym has.1) (omega arith) in let e = ap (λ k. (row_at rows_now k).set) one in omega arith
-  ]
+  le_after b other q has q_has le = grind (arith, common_steps, cases_lt, lt_after)
 
   links_now : (b : ℕ) (from : Option ℕ) → IsFrom newest rows_now b from → IsBelow rows_now (link_from newest rows_now b from) b (set_of rows_now from)
   links_now b from is_from other has lt =
@@ -214,27 +208,7 @@ module _ (newest : List ℕ) (rows : List Row) (slot low : ℕ) (keeps : KeepsLi
       })
 
   pub KeepsLinks-lowered : KeepsLinks newest rows_now
-  KeepsLinks-lowered = record {
-    links = links_now;
-    once = λ one other one_used has same.
-        let was_one = used_before one one_used in
-        let was_other = was (row_at rows_now one).block other has in
-        let of_block : HasBlock rows (row_at rows one).block other = (was_other.0, was_other.1 ∙ same_block one) in
-        elim (cases_lt (row_at rows one).set (row_at rows other).set) [
-          | inl lt ↦ absurd (let now = lt_after (row_at rows one).block one (Some other) (was_one, refl) of_block lt in omega arith)
-          | inr ge ↦ elim (cases_lt (row_at rows other).set (row_at rows one).set) [
-            | inl gt ↦ absurd (let now = lt_after (row_at rows one).block other (Some one) of_block (was_one, refl) gt in omega arith)
-            | inr le ↦ keeps.once one other was_one of_block (omega arith)
-          ]
-        ];
-    in_range = λ other other_used. let a = keeps.in_range other (used_before other other_used) in let e = same_block other in omega arith;
-    narrow_sets = λ other. elim (cases_eq other slot) [
-      | inl same ↦ let e = set_here other same in let n = keeps.narrow_sets slot in omega (arith, e, n, below)
-      | inr apart ↦ let e = set_there other apart in let n = keeps.narrow_sets other in omega (arith, e, n)
-    ];
-    narrow = let l = length-set rows slot lowered in let n = keeps.narrow in omega arith;
-    narrow_blocks = keeps.narrow_blocks;
-  }
+  KeepsLinks-lowered = search (rules, links_now, used_before, was, same_block, cases_lt, lt_after, cases_eq, set_here)
 
 -- ## the row that is read, where no copy of its block has a set between
 
@@ -259,8 +233,7 @@ module _ (newest : List ℕ) (rows : List Row) (slot low : ℕ) (row : Row) (cop
   free_here other has apart = grind (arith, cases_lt, between, used_here)
 
   pub KeepsLinks-lower : KeepsLinks newest (set rows slot (record { block = row.block; set = low; older = row.older }))
-  KeepsLinks-lower = subst (λ (r : Row). KeepsLinks newest (set rows slot (record { block = r.block; set = low; older = r.older }))) (sym row_is)
-      (KeepsLinks-lowered newest rows slot low keeps used_here above_zero below_row free_here)
+  KeepsLinks-lower = search (rules, row_is, KeepsLinks-lowered, used_here, below_row, free_here)
 
   pub lowered_is : IsLowered (record { blocks = length newest; copies = map copy_in rows })
       (record { blocks = length newest; copies = map copy_in (set rows slot (record { block = row.block; set = low; older = row.older })) }) slot low row.block
@@ -268,7 +241,6 @@ module _ (newest : List ℕ) (rows : List Row) (slot low : ℕ) (row : Row) (cop
     block_is = λ other is_other. sym (has_from_copy rows slot other.set other.block is_other).block_is ∙ ap (λ (r : Row). r.block) (sym row_is);
     lacked = λ has.
         let it = has_from_copy rows has.0 low row.block has.1 in
-        let set_is = it.set_is in
         let u = it.used in
         let high = between has.0 (u, it.block_is ∙ ap (λ (r : Row). r.block) row_is) (omega arith) in
         let under = below_row in
@@ -303,9 +275,7 @@ module _ (newest : List ℕ) (rows : List Row) (slot : ℕ) (row : Row) (copied 
 
   pub KeepsLinks-taken : (above : Option ℕ) → IsNextAbove rows row.block row.set above
       → KeepsLinks (newest_after newest row.block above row.older) (older_after (set rows slot (record { block = row.block; set = 0; older = row.older })) above row.older)
-  KeepsLinks-taken above next =
-      subst (λ (r : Row). KeepsLinks (newest_after newest r.block above r.older) (older_after (set rows slot (record { block = r.block; set = 0; older = r.older })) above r.older)) (sym row_is_out)
-      (taken_at above (subst (λ (r : Row). IsNextAbove rows r.block r.set above) row_is_out next))
+  KeepsLinks-taken above next = search (rules, row_is_out, taken_at)
 
   -- the oldest copy of its block
   pub KeepsLinks-oldest : (IsBelow rows (row_at rows slot).older row.block (row_at rows slot).set → NoneBetween rows row.block 0 (row_at rows slot).set)

@@ -68,7 +68,6 @@ module _ (entries : List Entry) (copies : List (Option Copied)) (slot image bloc
           | inl j_here ↦
               let a = ap place (get_or-insert_below entries n e d i (omega arith) within) in
               let b : place (get_or (insert entries n e) j d) ≡ place e = ap (λ k. place (get_or (insert entries n e) k d)) j_here ∙ ap place (get_or-insert_at entries n e d within) in
-              let up = before i d (omega arith) (omega arith) in
               omega arith
           | inr j_past ↦
               let step : (j - 1) + 1 ≡ j = omega arith in
@@ -139,7 +138,6 @@ module _ (entries : List Entry) (copies : List (Option Copied)) (slot image bloc
       (All-map (λ y. y < length copies) (λ (x : Entry). x.slot) entries (λ k d i. get_within copies (get_or entries k d).slot _ (index.each k d i).row)) in
       let most = length-le_from_distinct_below (slot ∷ slots) (length copies) distinct (λ q found.
       let any = Any-from_list_any (eqb q) (slot ∷ slots) found in
-      let at : get_or (slot ∷ slots) any.0 any.1 ≡ any.1 = any.3 in
       let test : eqb q any.1 ≡ true = any.4 in
       let bound = low any.0 any.1 any.2 in
       let same : q ≡ any.1 = grind (arith, nat_tests) in

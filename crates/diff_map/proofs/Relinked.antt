@@ -1,5 +1,5 @@
 -- What the links of the rows lead to, where a slot gets a copy or loses it: what the rows keep holds on.
-use Rattle.std.proofs.Common.{ℕ, ◌<◌, ◌^◌, List, Some, None, length, get_or, arith, ◌≡◌, ◌≢◌, ◌≤◌, ◌⊎◌, ◌∙◌, inl, inr, Option, set, refl, ap, sym, subst}
+use Rattle.std.proofs.Common.{ℕ, ◌<◌, ◌^◌, List, Some, None, length, get_or, arith, ◌≡◌, ◌≢◌, ◌≤◌, ◌⊎◌, ◌∙◌, inl, inr, Option, set, refl, ap, sym, subst, rules}
 use Rattle.std.proofs.lemmas.Bool.{cases_lt, cases_eq}
 use Rattle.std.proofs.lemmas.List.{get_or_past, get_or-set_same, get_or-set_other, length-set}
 use Rattle.std.proofs.lemmas.Option.{same_Some, none-some}
@@ -90,10 +90,7 @@ module _ (newest : List ℕ) (rows : List Row) (block slot : ℕ) (new : Row) (a
 pub are_relinked : (newest : List ℕ) (rows : List Row) (block slot low : ℕ) (new : Row) (above : Option ℕ) (to : ℕ) → slot < length rows → block < length newest → (row_at rows slot).set ≤ low
     → IsNextAbove rows block low above
     → AreRelinked newest (newest_after newest block above to) rows (rows_after rows slot new above to) block slot new above to
-are_relinked newest rows block slot low new None to inside in_range under next = are_relinked_none newest rows block slot new to inside in_range
-are_relinked newest rows block slot low new (Some at) to inside in_range under next =
-    are_relinked_some newest rows block slot new at to inside (used_within rows at next.has.0)
-    (λ same. let e : (row_at rows at).set ≡ (row_at rows slot).set = ap (λ k. (row_at rows k).set) same in let a = next.above in omega arith) next.has
+are_relinked newest rows block slot low new above to inside in_range under next = search (rules, are_relinked_none, are_relinked_some, used_within)
 
 -- ## what both have in common
 
@@ -164,11 +161,7 @@ module _ (newest newest' : List ℕ) (rows rows' : List Row) (block image slot :
   free_of b from x2 is_from = grind arith
 
   links_old : (b : ℕ) (from : Option ℕ) → from ≢ Some slot → IsFrom newest' rows' b from → IsBelow rows' (link_from newest' rows' b from) b (set_of rows' from)
-  links_old b from not_slot is_from' =
-      let is_from = from_before newest newest' rows rows' block slot new above slot is b from not_slot is_from' in
-      by_place newest newest' rows rows' block slot new above slot is b from to_slot
-      (λ apart. moved newest newest' rows rows' block slot new above slot is b from not_slot apart is_from
-      (kept (link_from newest rows b from) b (set_of rows from) (free_of b from apart is_from) (keeps.links b from is_from)))
+  links_old b from not_slot is_from' = search (rules, from_before, by_place, to_slot, moved, kept, free_of)
 
   links_now : (b : ℕ) (from : Option ℕ) → IsFrom newest' rows' b from → IsBelow rows' (link_from newest' rows' b from) b (set_of rows' from)
   links_now b from is_from = grind (arith, links_old, none-some, cases_eq, here_block, set_is, from_slot, same_Some)
@@ -215,19 +208,12 @@ module _ (newest newest' : List ℕ) (rows rows' : List Row) (slot : ℕ) (above
       → LeadsBelow rows (link_from newest rows b from) b (set_of rows from) → link_from newest rows b from ≢ slot
 
   past_out : (b : ℕ) (from : Option ℕ) → IsFrom newest rows b from → IsPast b from → IsBelow rows' (link_from newest rows b from) b (set_of rows from)
-  past_out b from is_from past other has lt =
-      let e = same_out b other has in
-      let low : (row_at rows other).set < set_of rows from = omega arith in
-      let leads = keeps.links b from is_from other (was_out b other has) low in
-      leads_out (link_from newest rows b from) b (set_of rows from) (past other has low leads) leads
+  past_out b from is_from past other has lt = search (rules, same_out, was_out, leads_out)
 
   module _ (here : IsBelow rows' (link_from newest' rows' block_out above) block_out (set_of rows' above))
       (past : (b : ℕ) (from : Option ℕ) → (b ≢ block_out) ⊎ (from ≢ above) → IsFrom newest rows b from → IsPast b from) where
     links_out : (b : ℕ) (from : Option ℕ) → from ≢ Some slot → IsFrom newest' rows' b from → IsBelow rows' (link_from newest' rows' b from) b (set_of rows' from)
-    links_out b from not_slot is_from' =
-        let is_from = from_before newest newest' rows rows' block_out slot gone above to is b from not_slot is_from' in
-        by_place newest newest' rows rows' block_out slot gone above to is b from here
-        (λ apart. moved newest newest' rows rows' block_out slot gone above to is b from not_slot apart is_from (past_out b from is_from (past b from apart is_from)))
+    links_out b from not_slot is_from' = search (rules, from_before, by_place, moved, past_out)
 
     all_links_out : (b : ℕ) (from : Option ℕ) → IsFrom newest' rows' b from → IsBelow rows' (link_from newest' rows' b from) b (set_of rows' from)
     all_links_out b from is_from = grind (arith, links_out, none-some, out_apart, same_Some)
@@ -265,7 +251,6 @@ module _ (newest newest' : List ℕ) (rows rows' : List Row) (slot : ℕ) (above
       let apart : older_out ≢ slot = λ same. let e : (row_at rows older_out).set ≡ s_out = ap (λ k. (row_at rows k).set) same in omega arith in
       let now = leads_out newest newest' rows rows' slot above older_out keeps is used older_out b_out s_out apart leads in
       let up = next.above in
-      let under_now = now.between.below in
       record {
         between = record { has = now.between.has; above = now.between.above; below = omega arith };
         next = λ other has lt.
@@ -287,7 +272,7 @@ module _ (newest newest' : List ℕ) (rows rows' : List Row) (slot : ℕ) (above
   leads_past b from apart is_from leads same = grind arith
 
   pub KeepsLinks-out : KeepsLinks newest' rows'
-  KeepsLinks-out = KeepsLinks-gone newest newest' rows rows' slot above older_out keeps is used here_out (λ b from apart is_from other has lt leads. leads_past b from apart is_from leads)
+  KeepsLinks-out = search (rules, KeepsLinks-gone, here_out, leads_past)
 
 -- the oldest copy of a block goes, and no link leads elsewhere
 module _ (newest : List ℕ) (rows : List Row) (slot : ℕ) (keeps : KeepsLinks newest rows) (used : 0 < (row_at rows slot).set)

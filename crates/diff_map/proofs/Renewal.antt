@@ -1,10 +1,10 @@
 -- Rows that are renewed by a rule, one after another: what the rules make of a copy, and that the ordered list is the index again.
-use Rattle.std.proofs.Common.{ℕ, zero, suc, ◌≡◌, ◌≢◌, ◌<◌, inl, inr, Bool, true, false, List, [], ◌∷◌, length, get_or, set, Option, Some, None, refl, ap, sym}
-use Rattle.std.proofs.Common.{◌∙◌, subst, arith, cond, ◌^◌, All, Contains}
+use Rattle.std.proofs.Common.{ℕ, zero, suc, ◌≡◌, ◌≢◌, ◌<◌, Bool, true, false, List, [], ◌∷◌, length, get_or, set, Option, Some, None, refl, ap, sym}
+use Rattle.std.proofs.Common.{◌∙◌, arith, cond, ◌^◌, All, Contains, rules}
 use Rattle.std.proofs.lemmas.Bool.{cases_eq, false≢true}
 use Rattle.std.proofs.lemmas.Bool.Decides.{nat_tests}
 use Rattle.std.proofs.lemmas.Grind.{common_steps}
-use Rattle.std.proofs.lemmas.List.{length-set, get_or-set_same, get_or-set_other, get_or_default}
+use Rattle.std.proofs.lemmas.List.{get_or-set_same, get_or-set_other, get_or_default}
 use Rattle.std.proofs.lemmas.List.Elements.{All-nil, All-head, All-tail}
 use Rattle.std.proofs.lemmas.List.Folds.{list_any_at, Any-from_list_any}
 use Rattle.std.proofs.lemmas.Option.{same_Some, slice_get_within}
@@ -29,16 +29,7 @@ GivesBack-none rows pool = grind arith
 -- no two entries have one slot
 pub slots_apart : (entries : List Entry) (copies : List (Option Copied)) → IsIndex entries copies → (i j : ℕ) (d e : Entry) → i < j → j < length entries
     → (get_or entries i d).slot ≢ (get_or entries j e).slot
-slots_apart entries copies index i j d e low inside same =
-    let default : get_or entries j e ≡ get_or entries j d = get_or_default entries j e d inside in
-    let a = (index.each i d (omega arith)).row in
-    let b = (index.each j d inside).row in
-    let same_slot : (get_or entries i d).slot ≡ (get_or entries j d).slot = same ∙ ap (λ x. x.slot) default in
-    let both = same_Some _ _ (sym a ∙ ap (copied_at copies) same_slot ∙ b) in
-    let blocks : (get_or entries i d).block ≡ (get_or entries j d).block = ap (λ c. c.block) both in
-    let sets : (get_or entries i d).set ≡ (get_or entries j d).set = ap (λ c. c.set) both in
-    let order = index.in_order i j d low inside in
-    omega arith
+slots_apart entries copies index i j d e low inside same = search (rules, get_or_default, same_Some)
 
 pub get_within : (rows : List (Option Copied)) (k : ℕ) (c : Copied) → copied_at rows k ≡ Some c → k < length rows
 get_within rows k c row = grind (arith, common_steps)
@@ -67,23 +58,7 @@ slice_get-set_other (x ∷ xs) (suc i) (suc k) v other = slice_get-set_other xs 
 pub GivesBack-free : (before after : List (Option Copied)) (old new : List Bool) (slot : ℕ) (b a : Copied) → GivesBack before after old new → AllTaken before old → copied_at before slot ≡ Some b
     → copied_at after slot ≡ Some a → GivesBack before (set after slot None) old (set new slot true)
 GivesBack-free before after old new slot b a gives taken was is =
-    let within = slice_get_within new slot false (taken_ahead before after old new slot b a gives taken was is) in
-    let none : copied_at (set after slot None) slot ≡ None = get_or-set_same after slot None None (get_within after slot a is) in
-    record {
-      freed = λ k some gone. elim (cases_eq k slot) [
-        | inl same ↦ subst (λ (s : ℕ). slice_get (set new slot true) s ≡ Some true) (sym same) (slice_get-set_same new slot true within)
-        | inr other ↦ slice_get-set_other new slot k true other ∙ gives.freed k some (ap is_some (sym (get_or-set_other after slot k None None other)) ∙ gone)
-      ];
-      others = λ k stays. elim (cases_eq k slot) [
-        | inl same ↦ elim stays [
-          | inl never ↦ absurd (some_or_none (copied_at before k) (is_some_from (copied_at before k) b (ap (copied_at before) same ∙ was)) never)
-          | inr still ↦ absurd (some_or_none (copied_at (set after slot None) k) still (ap is_some (ap (copied_at (set after slot None)) same ∙ none)))
-        ]
-        | inr other ↦ slice_get-set_other new slot k true other
-            ∙ gives.others k (elim stays [ inl never ↦ inl never | inr still ↦ inr (ap is_some (sym (get_or-set_other after slot k None None other)) ∙ still) ])
-      ];
-      slots = length-set new slot true ∙ gives.slots;
-    }
+    search (rules, slice_get_within, taken_ahead, get_or-set_same, get_within, cases_eq, slice_get-set_same, slice_get-set_other, get_or-set_other)
 
 -- a noted slot's row becomes another, and the slot stays
 pub GivesBack-keep : (before after : List (Option Copied)) (old new : List Bool) (slot : ℕ) (a v : Copied) → GivesBack before after old new → copied_at after slot ≡ Some a
@@ -98,10 +73,6 @@ rule_takes going c test = ap (λ b. cond {A = Option Copied} b None (Some c)) te
 pub rule_leaves : (going : Going) (c : Copied) → takes going c.set ≡ false → rule_of going c ≡ Some c
 rule_leaves going c test = ap (λ b. cond {A = Option Copied} b None (Some c)) test
 
--- a copy that does not go stays as it is
-pub rule_gives : (going : Going) (c d : Copied) → rule_of going c ≡ Some d → (takes going c.set ≡ false) × (d ≡ c)
-rule_gives going c d gives = grind arith
-
 same_copy : (image block : ℕ) → is_copy image block (Some (copy_of image block)) ≡ true
 same_copy image block = grind (arith, nat_tests)
 
@@ -112,13 +83,7 @@ copy_is : (image block : ℕ) (c : Copied) → is_copy image block (Some c) ≡ 
 copy_is image block c test = grind arith
 
 pub row_from_has : (copies : List (Option Copied)) (image block : ℕ) → has_copy copies image block ≡ true → HasCopy copies image block
-row_from_has copies image block test =
-    let found = Any-from_list_any (is_copy image block) copies test in
-    row found.1 found.0 found.2 found.3 found.4
-  where
-    row : (x : Option Copied) (k : ℕ) → k < length copies → get_or copies k x ≡ x → is_copy image block x ≡ true → HasCopy copies image block
-    row None k inside is passes = absurd (false≢true passes)
-    row (Some c) k inside is passes = (k, get_or_default copies k None (Some c) inside ∙ is ∙ ap Some (copy_is image block c passes))
+row_from_has copies image block test = let found = Any-from_list_any (is_copy image block) copies test in grind (arith, common_steps, get_or_default, copy_is)
 
 -- what the rule of a merge makes of the image's copies and of others
 pub merged_goes : (copies : List (Option Copied)) (older image : ℕ) (c : Copied) → c.set ≡ image → has_copy copies older c.block ≡ true → merged copies (Some older) image c ≡ None

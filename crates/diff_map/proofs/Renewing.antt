@@ -1,12 +1,13 @@
 -- Copies that go or are handed down one after the other, and their slots that go back.
-use Rattle.std.proofs.Common.{ℕ, zero, suc, ◌∷◌, [], ◌≡◌, ◌≢◌, ◌+◌, ◌<◌, ◌≤◌, ◌⊎◌, inl, inr, Bool, true, false, leb, List, Option, Some, None, length, get_or, set, map, refl, ap, sym, ◌∙◌, subst}
-use Rattle.std.proofs.Common.{arith, Contains}
+use Rattle.std.proofs.Common.{ℕ, zero, suc, ◌∷◌, [], ◌≡◌, ◌≢◌, ◌+◌, ◌<◌, ◌≤◌, ◌⊎◌, inl, inr, Bool, true, false, List, Option, Some, None, length, get_or, set, map, refl, ap, sym, ◌∙◌, subst}
+use Rattle.std.proofs.Common.{arith, Contains, rules}
 use Rattle.std.specs.List.{slice_get, AllWithin}
 use Rattle.std.specs.Option.{option_and_then}
 use Rattle.std.proofs.lemmas.Bool.{cases_eq, cases_lt, cases_Bool}
 use Rattle.std.proofs.lemmas.Bool.Decides.{nat_tests}
 use Rattle.std.proofs.lemmas.List.{ext_get_or, get_or-map, length-map, length-set, get_or-set_same, get_or-set_other, get_or_default, set-set}
 use Rattle.std.proofs.lemmas.Option.{same_Some, none-some}
+use Rattle.std.proofs.lemmas.Grind.{common_steps}
 use Rattle.diff_map.specs.declared.copied.Copied.{Copied}
 use Rattle.diff_map.specs.declared.going.Going.{Going}
 use Rattle.diff_map.specs.declared.going.Going.TheVariants.{From, UpTo}
@@ -16,7 +17,7 @@ use Rattle.diff_map.specs.declared.entry.Entry.{Entry}
 use Rattle.diff_map.specs.Rules.{renewed, merged, next_older, GivesBack, takes, rule_of, IsRenewing}
 use Rattle.diff_map.proofs.Counting.{used_some, used_out, used_out_other, used_noted_other}
 use Rattle.diff_map.proofs.Images.{next_older_is}
-use Rattle.diff_map.proofs.Renewal.{copied_at-renewed, GivesBack-none, GivesBack-free, GivesBack-keep, get_within, rule_takes, rule_leaves, rule_gives}
+use Rattle.diff_map.proofs.Renewal.{copied_at-renewed, GivesBack-none, GivesBack-free, GivesBack-keep, get_within, rule_takes, rule_leaves}
 use Rattle.diff_map.proofs.Renewal.{row_from_has, has_from_row, merged_goes, merged_moves, merged_stays, merged_nowhere}
 
 pub IsRenewing-none : (rule : Copied → Option Copied) (rows : List (Option Copied)) (pool : List Bool) → IsRenewing rule rows rows pool pool
@@ -30,24 +31,18 @@ step rule before after old new newer slot b row is inside was ruled gives = grin
 -- a copy that is still as it was goes, and its slot goes back
 pub IsRenewing-freed : (rule : Copied → Option Copied) (before after : List (Option Copied)) (old new : List Bool) (slot : ℕ) (a b : Copied) → IsRenewing rule before after old new
     → AllTaken before old → copied_at after slot ≡ Some a → copied_at before slot ≡ Some b → rule b ≡ None → IsRenewing rule before (set after slot None) old (set new slot true)
-IsRenewing-freed rule before after old new slot a b is taken row was ruled =
-    step rule before after old new (set new slot true) slot b None is (get_within after slot a row) was ruled (GivesBack-free before after old new slot b a is.gives taken was row)
+IsRenewing-freed rule before after old new slot a b is taken row was ruled = search (rules, step, get_within, GivesBack-free)
 
 pub IsRenewing-moved : (rule : Copied → Option Copied) (before after : List (Option Copied)) (old new : List Bool) (slot : ℕ) (a b v : Copied) → IsRenewing rule before after old new
     → copied_at after slot ≡ Some a → copied_at before slot ≡ Some b → rule b ≡ Some v → IsRenewing rule before (set after slot (Some v)) old new
-IsRenewing-moved rule before after old new slot a b v is row was ruled =
-    step rule before after old new new slot b (Some v) is (get_within after slot a row) was ruled (GivesBack-keep before after old new slot a v is.gives row)
+IsRenewing-moved rule before after old new slot a b v is row was ruled = search (rules, step, get_within, GivesBack-keep)
 
 -- where no copy is left that the rule would change, all rows are renewed
 pub renewed_all : (rule : Copied → Option Copied) (before after : List (Option Copied)) (old new : List Bool) → IsRenewing rule before after old new
     → ((slot : ℕ) (c : Copied) → copied_at after slot ≡ Some c → copied_at before slot ≡ Some c → rule c ≡ Some c) → after ≡ renewed rule before
 renewed_all rule before after old new is rest =
-    ext_get_or None after (map (option_and_then rule) before) (is.long ∙ sym (length-map before (option_and_then rule)))
-    (λ k inside. row k (copied_at before k) refl ∙ sym (get_or-map (option_and_then rule) before k None None (let l = is.long in omega arith)))
-  where
-    row : (k : ℕ) (o : Option Copied) → copied_at before k ≡ o → copied_at after k ≡ option_and_then rule (copied_at before k)
-    row k None was = elim (is.each k) [ inl kept ↦ kept ∙ was ∙ ap (option_and_then rule) (sym was) | inr ruled ↦ ruled ]
-    row k (Some c) was = elim (is.each k) [ inl kept ↦ kept ∙ was ∙ sym (rest k c (kept ∙ was) was) ∙ ap (option_and_then rule) (sym was) | inr ruled ↦ ruled ]
+    let fact = ext_get_or None after (map (option_and_then rule) before) (is.long ∙ sym (length-map before (option_and_then rule))) in
+    grind (arith, common_steps, length-map before (option_and_then rule), get_or-map (option_and_then rule) before)
 
 not_used : (copies : List (Option Copied)) (image slot : ℕ) (c : Copied) → used_for copies image ≡ 0 → copied_at copies slot ≡ Some c → c.set ≢ image
 not_used copies image slot c none row same = grind (arith, used_some)
@@ -114,8 +109,7 @@ module _ (before after : List (Option Copied)) (old new : List Bool) (older imag
 
 pub merged_all : (before after : List (Option Copied)) (old new : List Bool) (older image : ℕ) → IsRenewing (merged before (Some older) image) before after old new → used_for after image ≡ 0
     → after ≡ renewed (merged before (Some older) image) before
-merged_all before after old new older image is none = renewed_all (merged before (Some older) image) before after old new is
-    (λ slot c now was. merged_stays before (Some older) image c (not_used after image slot c none now))
+merged_all before after old new older image is none = search (rules, renewed_all, merged_stays, not_used)
 
 -- ## a map in which copies go
 
@@ -135,11 +129,9 @@ renewed_map rule first after old new is all = grind arith
 pub IsRenewingMap-freed : (rule : Copied → Option Copied) (first mid after : MapValue) (old new : List Bool) (image : ℕ) (e : Entry) → IsRenewingMap rule first mid old new
     → IsPopped mid after image e → AllTaken first.copies old → copied_at first.copies e.slot ≡ Some (copy_of image e.block) → rule (copy_of image e.block) ≡ None
     → IsRenewingMap rule first after old (set new e.slot true)
-IsRenewingMap-freed rule first mid after old new image e is popped taken was ruled = subst (λ (m : MapValue). IsRenewingMap rule first m old (set new e.slot true)) (sym popped.gone) (record {
-  blocks = is.blocks;
-  images = is.images;
-  renews = IsRenewing-freed rule first.copies mid.copies old new e.slot (copy_of image e.block) (copy_of image e.block) is.renews taken popped.noted was ruled;
-})
+IsRenewingMap-freed rule first mid after old new image e is popped taken was ruled =
+    let fact = IsRenewing-freed rule first.copies mid.copies old new e.slot (copy_of image e.block) (copy_of image e.block) is.renews taken popped.noted was in
+    grind (arith, common_steps)
 
 slice_get-set_here : (rows : List (Option Copied)) (slot : ℕ) (row : Option Copied) → slot < length rows → slice_get (set rows slot row) slot ≡ Some row
 slice_get-set_here [] slot row inside = absurd (omega arith)
@@ -165,8 +157,7 @@ module _ (first mid after : MapValue) (old new : List Bool) (older image : ℕ) 
   has_now has = grind (arith, same_Some, get_or-set_other)
 
   pub handing_frees : AllTaken first.copies old → HasCopy after.copies older e.block → IsRenewingMap (merged first.copies (Some older) image) first after old (set new e.slot true)
-  handing_frees taken has = IsRenewingMap-freed (merged first.copies (Some older) image) first mid after old new image e is popped taken handing_was
-      (merging_goes first.copies mid.copies old new older image e.block e.slot below valid.once is.renews popped.noted (has_then has))
+  handing_frees taken has = search (rules, IsRenewingMap-freed, handing_was, merging_goes, has_then)
 
   pub handing_moves : (HasCopy after.copies older e.block → ⊥)
       → IsRenewingMap (merged first.copies (Some older) image) first (record { blocks = after.blocks; images = after.images; copies = set after.copies e.slot (Some (copy_of older e.block)) }) old new
@@ -233,21 +224,10 @@ going_was going n image first mid after old new e up popped goes = grind arith
 pub FreesMapUpTo-popped : (going : Going) (n image : ℕ) (first mid after : MapValue) (old new : List Bool) (e : Entry) → FreesMapUpTo going n first mid old new → IsPopped mid after image e
     → takes going image ≡ true → AllTaken first.copies old → FreesMapUpTo going n first after old (set new e.slot true)
 FreesMapUpTo-popped going n image first mid after old new e up popped goes taken =
-    let was = going_was going n image first mid after old new e up popped goes in
-    let freed = IsRenewingMap-freed (rule_of going) first mid after old new image e (record { blocks = up.blocks; images = up.images; renews = up.frees.renews }) popped taken was
-    (rule_takes going (copy_of image e.block) goes) in
-    record {
-      blocks = freed.blocks;
-      images = freed.images;
-      frees = record {
-        renews = freed.renews;
-        freed = λ k d low within test. ap (λ (m : MapValue). used_for m.copies (get_or first.images k d)) popped.gone ∙ elim (cases_eq (get_or first.images k d) image) [
-          | inl same ↦ absurd (let none = up.frees.freed k d low within test in let less = used_out mid.copies e.slot image e.block popped.noted in let e2 : used_for mid.copies
-              (get_or first.images k d) ≡ used_for mid.copies image = ap (used_for mid.copies) same in omega arith)
-          | inr differ ↦ used_out_other mid.copies e.slot image e.block (get_or first.images k d) popped.noted differ ∙ up.frees.freed k d low within test
-        ];
-      };
-    }
+    let fact = IsRenewingMap-freed (rule_of going) first mid after old new image e in
+    let fact1 = going_was going n image first mid after old new e up popped goes in
+    let fact2 = used_out mid.copies e.slot image e.block popped.noted in
+    grind (arith, common_steps, rule_takes going (copy_of image e.block) goes, used_out_other mid.copies e.slot image e.block)
 
 pub FreesMapUpTo-done : (going : Going) (n image : ℕ) (first mid : MapValue) (old new : List Bool) → FreesMapUpTo going n first mid old new → n < length first.images → image ≡ get_or first.images n 0
     → used_for mid.copies image ≡ 0 → FreesMapUpTo going (n + 1) first mid old new
@@ -264,16 +244,10 @@ left_by rule P copies passes slot d row = by_row (copied_at copies slot) (sym (c
 
 pub left_up_to : (newest : ℕ) (copies : List (Option Copied)) (slot : ℕ) (d : Copied) → copied_at (renewed (rule_of (UpTo newest)) copies) slot ≡ Some d → newest < d.set
 left_up_to newest copies = left_by (rule_of (UpTo newest)) (λ image. newest < image) copies (λ c d gives.
-    let rule = rule_gives (UpTo newest) c d gives in
-    let test : leb c.set newest ≡ false = rule.0 in
-    let same : d.set ≡ c.set = ap (λ (x : Copied). x.set) rule.1 in
     grind (arith, nat_tests))
 
 pub left_from : (oldest : ℕ) (copies : List (Option Copied)) (slot : ℕ) (d : Copied) → copied_at (renewed (rule_of (From oldest)) copies) slot ≡ Some d → d.set ≤ oldest
 left_from oldest copies = left_by (rule_of (From oldest)) (λ image. image ≤ oldest) copies (λ c d gives.
-    let rule = rule_gives (From oldest) c d gives in
-    let test : leb oldest c.set ≡ false = rule.0 in
-    let same : d.set ≡ c.set = ap (λ (x : Copied). x.set) rule.1 in
     grind (arith, nat_tests))
 
 pub left_merged : (images : List ℕ) (copies : List (Option Copied)) (image : ℕ) (slot : ℕ) (d : Copied) → copied_at (renewed (merged copies (next_older images image) image) copies) slot ≡ Some d

@@ -45,15 +45,11 @@ pub among_was : (s set : ℕ) (images : List ℕ) → is_among s (filter (λ x. 
 among_was s set [] is = cc
 among_was s set (i ∷ images) is = grind (arith, common_steps, other_number, same_number, among_was s set images)
 
-not_below : (set : ℕ) (images : List ℕ) → All (λ s. s < set) images → is_among set images ≡ false
+pub not_below : (set : ℕ) (images : List ℕ) → All (λ s. s < set) images → is_among set images ≡ false
 not_below set [] below = refl
 not_below set (i ∷ images) below =
     let low : i < set = All-head (λ s. s < set) i images below in
     ap (λ (t : Bool). t || is_among set images) (number_is_other i set (λ e. absurd (omega arith))) ∙ not_below set images (All-tail (λ s. s < set) i images below)
-
--- a set greater than all is not among them
-pub new_set : (set : ℕ) (images : List ℕ) → All (λ s. s < set) images → is_among set images ≡ false
-new_set set images below = not_below set images below
 
 -- where each set is above 0, no image is of set 0
 pub none_gone : (images : List Image) → ((set : ℕ) → is_among set (sets_of images) ≡ true → 0 < set) → after_set 0 images ≡ images

@@ -25,7 +25,7 @@ use Rattle.mirror_volume.specs.Contract.{faults_of, slots_of}
 use Rattle.mirror_volume.specs.MirrorCalls.{IsCalled, AreCalled, AreLasting, IsQuietDevice}
 use Rattle.mirror_volume.specs.Mirrors.{MirrorValue, StandsFor, AreHeld, KeepsMirrors, counts_from, holds_of}
 use Rattle.mirror_volume.specs.declared.mirror.Mirror.{Mirror}
-use Rattle.mirror_volume.proofs.Keeping.{more_at, keeps_primary}
+use Rattle.mirror_volume.proofs.Keeping.{keeps_primary}
 use Rattle.mirror_volume.proofs.Held.{map-slice_set, all_later, all_rose, later_itself, later_set, rose_set, AllLater, AnyRose}
 use Rattle.mirror_volume.proofs.Standing.{quiet_stands, same_mirror}
 
@@ -64,12 +64,10 @@ module _ {D : Type 0} (ghosts : Ghosts D) where
 
   pub one_flushed : (k : ℕ) (old now : List (Mirror D)) (m next : Mirror D) → HaveFlushed ghosts k old now → slice_get now k ≡ Some m → IsCalled ghosts m next
       → ghosts.lasting next.device ≡ ghosts.told next.device → count_of next ≡ count_of m → HaveFlushed ghosts (k + 1) old (slice_set now k next)
-  one_flushed k old now m next have at is lasts same = record {
-    called = one_called old now k m next have.called at is;
-    last = λ j n low here. more_at (λ (x : Mirror D). ghosts.lasting x.device ≡ ghosts.told x.device) (slice_set now k next) k next (slice_get-set_same now k m next at) lasts
-        (λ i x before there. have.last i x before (sym (slice_get-set_other now k i next (λ e. absurd (omega arith))) ∙ there)) j n low here;
-    counts = map-slice_set count_of now k next ∙ (ap (slice_set (map count_of now) k) same ∙ slice_set-same (map count_of now) k (count_of m) (slice_get_map count_of now k m at)) ∙ have.counts;
-  }
+  one_flushed k old now m next have at is lasts same =
+      let fact = slice_set-same (map count_of now) k (count_of m) (slice_get_map count_of now k m at) in
+      let fact1 = one_called old now k m next have.called in
+      grind (arith, common_steps, slice_get-set_same now k m next, slice_get-set_other now k, map-slice_set count_of now k next, slice_get_map count_of now k m)
 
   pub all_last : (k : ℕ) (old new : List (Mirror D)) → HaveFlushed ghosts k old new → length new ≤ k → AreLasting ghosts new
   all_last k old new have all j n at = have.last j n (let within = slice_get_within new j n at in omega arith) at

@@ -1,10 +1,11 @@
 -- What a volume with images has said to commands: one command, one more, and the first ones of a list.
-use Rattle.std.proofs.Common.{◌≡◌, ℕ, ◌+◌, ◌<◌, ◌≤◌, List, [], ◌∷◌, length, ap, sym, arith, Bool, true, false, subst, ◌++◌, refl, ◌∙◌, inl, Option, Some, None}
+use Rattle.std.proofs.Common.{◌≡◌, ℕ, ◌+◌, ◌<◌, ◌≤◌, List, [], ◌∷◌, length, ap, arith, Bool, true, false, ◌++◌, refl, ◌∙◌, inl, Option, Some, None}
 use Rattle.std.proofs.Common.{zero, suc, take, drop}
 use Rattle.std.proofs.lemmas.Grind.{common_steps}
 use Rattle.std.proofs.lemmas.List.{map-append, length-append, length-map}
-use Rattle.std.proofs.lemmas.List.Elements.{All-head, All-tail, All-push, All-cons}
+use Rattle.std.proofs.lemmas.List.Elements.{All-head, All-tail, All-cons}
 use Rattle.std.specs.Prelude.{All, filter, if◌then◌else◌, ◌⊎◌, slice_get}
+use Rattle.std.proofs.lemmas.Bool.Decides.{nat_tests}
 use Rattle.vss_names.specs.Faults.{Rose}
 use Rattle.block_data.specs.BlockBytes.{sha256}
 use Rattle.write_history.specs.History.{History, Image as Shown, sets_of, content, point_in}
@@ -17,7 +18,7 @@ use Rattle.mirror_volume.specs.Replies.{replies_of, is_plain, are_plain, used_by
 use Rattle.mirror_volume.specs.declared.command.Command.{Command}
 use Rattle.mirror_volume.specs.declared.command.Command.TheVariants.{Write, Cut, Drop, Image}
 use Rattle.mirror_volume.specs.declared.said.Said.{Said}
-use Rattle.mirror_volume.specs.declared.said.Said.TheVariants.{Ok, Wrote, Bytes, NoSuchImage, NoMirror, Fault, Ok as SaidOk}
+use Rattle.mirror_volume.specs.declared.said.Said.TheVariants.{Bytes, NoSuchImage, Fault, Ok as SaidOk}
 
 -- ## Which commands may be given as others were: what is left of a list.
 
@@ -56,30 +57,7 @@ with_fewer n newest room rest now before fewer most few allowed = grind (arith, 
 cut_given : (n newest room left set : ℕ) (rest : List Command) (said : Said) (h : History) → All (λ s. s ≤ newest) (sets_of h.images) → length (sets_of h.images) + room ≤ 512 → room ≡ left + 1
     → newest < set → AreAllowed n set left rest
     → MayBeGiven n (sets_of (after_cut set said h).images) rest
-cut_given n newest room left set rest said h most few one less allowed = by_said said where
-  weaker : All (λ s. s ≤ set) (sets_of h.images)
-  weaker = All-weaken (λ s. s ≤ newest) (λ s. s ≤ set) (sets_of h.images) (λ s l. omega arith) most
-
-  stays : MayBeGiven n (sets_of h.images) rest
-  stays = record { newest = set; room = left; at_most = weaker; few = omega arith; allowed = allowed }
-
-  by_said : (s : Said) → MayBeGiven n (sets_of (after_cut set s h).images) rest
-  by_said Ok =
-      let more : Shown = record { set = set; point = length h.writes } in
-      let are = map-append (λ (i : Shown). i.set) h.images (more ∷ []) in
-      let same : set ≤ set = omega arith in
-      record {
-        newest = set;
-        room = left;
-        at_most = subst (λ (ss : List ℕ). All (λ s. s ≤ set) ss) (sym are) (All-push (λ s. s ≤ set) (sets_of h.images) set weaker same);
-        few = let long = length-append (sets_of h.images) (set ∷ []) in let is = ap length are in omega arith;
-        allowed = allowed;
-      }
-  by_said (Wrote m) = stays
-  by_said (Fault m) = stays
-  by_said (Bytes d) = stays
-  by_said NoSuchImage = stays
-  by_said NoMirror = stays
+cut_given n newest room left set rest said h most few one less allowed = grind (arith, common_steps, All-weaken, map-append, length-append)
 
 -- the rest of commands may be given once the first was
 pub given_rest : (n : ℕ) (c : Command) (rest : List Command) (said : Said) (h : History) → MayBeGiven n (sets_of h.images) (c ∷ rest) → MayBeGiven n (sets_of (after h c said).images) rest
@@ -120,9 +98,8 @@ plain_replies kind h ready count now_ready now_count [] [] run plain = refl
 plain_replies kind h ready count now_ready now_count [] (s ∷ said) run plain = absurd run
 plain_replies kind h ready count now_ready now_count (c ∷ commands) [] run plain = absurd run
 plain_replies kind h ready count now_ready now_count (c ∷ commands) (s ∷ said) run plain =
-    let same = reply_plain kind h ready (Rose count run.1) c s run.2.reply (and_left (is_plain s) (are_plain said) plain) in
-    let rest = plain_replies kind (after h c s) run.0 run.1 now_ready now_count commands said run.3 (and_right (is_plain s) (are_plain said) plain) in
-    ap (λ t. t ∷ said) same ∙ ap (λ ts. reply_of h c ∷ ts) (rest ∙ ap (λ (t : Said). replies_of (after h c t) commands) same)
+    let fact = plain_replies kind (after h c s) run.0 run.1 now_ready now_count commands said run.3 (and_right (is_plain s) (are_plain said) plain) in
+    grind (arith, common_steps, reply_plain, and_left, and_right)
 
 -- ## cuts that are used up
 
@@ -246,26 +223,6 @@ module _ {V : Type 0} (stands : V → History → Type 0) (tells : V → Bool) (
       → ((h : History) → stands now h → stands next (after h c s)) → tells next ≡ tells now → size next ≡ size now → slots next ≡ slots now
       → HaveSaid stands tells size slots ready count sets per first next commands (k + 1) (said ++ s ∷ [])
   one_said first now next commands k said c s h0 stood are have at step after_is tell sized slotted =
-      let more = take_next commands k c at in
-      let long : length said ≡ length (take k commands) = have.long ∙ sym (long_take commands k c at) in
-      record {
-        long = length-append said (s ∷ []) ∙ ap (λ (n : ℕ). n + 1) have.long;
-        tells_is = tell ∙ have.tells_is;
-        size_is = sized ∙ have.size_is;
-        slots_is = slotted ∙ have.slots_is;
-        run = λ h is. subst (λ (cs : List Command). IsRun (kind_of size slots per first) (tells first) h (ready first) (count first) cs (said ++ s ∷ []) (ready next) (count next)) (sym more)
-            (run-more (kind_of size slots per first) (tells first) h (ready first) (count first) (ready now) (count now) (ready next) (count next) (take k commands) said c s (have.run h is)
-            (subst (λ (t : Bool). IsStep (kind_of size slots per first) t (after_all h (take k commands) said) c s (ready now) (count now) (ready next) (count next)) have.tells_is
-            (subst (λ (kind : Kind). IsStep kind (tells now) (after_all h (take k commands) said) c s (ready now) (count now) (ready next) (count next))
-            (same_kind per (size now) (size first) (slots now) (slots first) have.size_is have.slots_is)
-            (step (after_all h (take k commands) said) (have.stands_now h is)))));
-        stands_now = λ h is. subst (λ (cs : List Command). stands next (after_all h cs (said ++ s ∷ []))) (sym more)
-            (subst (λ (g : History). stands next g) (sym (after_all-more h (take k commands) said c s long)) (after_is (after_all h (take k commands) said) (have.stands_now h is)));
-        allowed =
-            let before = have.stands_now h0 stood in
-            let history : History = after_all h0 (take k commands) said in
-            subst (λ (ss : List ℕ). MayBeGiven (size first) ss (drop (k + 1) commands)) (sym (are next (after history c s) (after_is history before)))
-            (given_rest (size first) c (drop (k + 1) commands) s history
-            (subst (λ (ss : List ℕ). MayBeGiven (size first) ss (c ∷ drop (k + 1) commands)) (are now history before)
-            (subst (λ (cs : List Command). MayBeGiven (size first) (sets now) cs) (drop_one commands k c at) have.allowed)));
-      }
+      let fact = length-append said (s ∷ []) in
+      let fact1 = take_next commands k c in
+      grind (arith, common_steps, nat_tests, run-more, same_kind, after_all-more, given_rest, long_take commands k c, drop_one commands k c)

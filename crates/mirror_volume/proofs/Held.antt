@@ -7,6 +7,7 @@ use Rattle.std.proofs.lemmas.List.{length-map, length-replicate}
 use Rattle.std.proofs.lemmas.Option.{same_Some, slice_get_within}
 use Rattle.std.specs.List.{list_all}
 use Rattle.std.specs.Prelude.{◌⊎◌, slice_get, slice_set, ◌==◌, not, filter, map, All, ◌&&◌, if◌then◌else◌, count_by, is_some, is_none}
+use Rattle.std.proofs.Math.Nat.{le_refl}
 use Rattle.vss_names.specs.Faults.{counted, all_counted, Rose}
 use Rattle.volume_device.specs.declared.device.Device.{Ghosts}
 use Rattle.cow_volume.specs.Calls.{is_among}
@@ -224,9 +225,6 @@ still_ready : {D : Type 0} → (ghosts : Ghosts D) (b : ℕ) (bytes : List ℕ) 
     → (is_ready next ≡ true) ⊎ Rose (ghosts.count m.device) (ghosts.count next.device)
 still_ready ghosts b bytes m next is ready = grind (arith, and_left, same_number, and_right, not_none, fewer_stale, zero_is)
 
-same_le : (n : ℕ) → n ≤ n
-same_le n = omega arith
-
 count_two : (s t : Bool) (m n : ℕ) → (s ≡ true → t ≡ true) → m ≤ n → (if s then 1 else 0) + m ≤ (if t then 1 else 0) + n
 count_two s t m n more l = grind arith
 
@@ -260,7 +258,7 @@ ready_followed {D = D} ghosts b bytes (m ∷ old) (n ∷ new) are = by_one (is_r
 pub ready_set : {D : Type 0} → (mirrors : List (Mirror D)) (k : ℕ) (m next : Mirror D) → slice_get mirrors k ≡ Some m → (is_ready m ≡ true → is_ready next ≡ true)
     → count_by is_ready mirrors ≤ count_by is_ready (slice_set mirrors k next)
 ready_set [] k m next at more = omega arith
-ready_set {D = D} (x ∷ mirrors) zero m next at more = grind (arith, common_steps, count-cons, count_two, same_Some, same_le)
+ready_set {D = D} (x ∷ mirrors) zero m next at more = grind (arith, common_steps, count-cons, count_two, same_Some, le_refl)
 ready_set (x ∷ mirrors) (suc k) m next at more = grind (arith, common_steps, count-cons, ready_set mirrors k m next)
 
 -- one that was ready is split off

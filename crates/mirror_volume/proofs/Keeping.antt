@@ -4,6 +4,8 @@ use Rattle.std.proofs.Common.{get_or, ◌++◌, take, drop, None, Vec, vec_capac
 use Rattle.std.proofs.lemmas.Option.{same_Some, slice_get_within}
 use Rattle.std.specs.Prelude.{slice_get, slice_set, ◌==◌, filter, not, map, All, IfSome, OnOk, OnErr, option_map, if◌then◌else◌, Result, Ok, Err, is_err}
 use Rattle.std.specs.declared.alloc.Global.{Global}
+use Rattle.std.proofs.lemmas.Grind.{common_steps}
+use Rattle.std.proofs.lemmas.Bool.Decides.{nat_tests}
 use Rattle.vss_names.specs.Faults as Faults
 use Rattle.volume_device.specs.InMemory.{AreBlocks}
 use Rattle.volume_device.specs.declared.device.Device.{Ghosts}
@@ -15,16 +17,16 @@ use Rattle.cow_volume.proofs.Group.{slice_get-set_same, slice_get-set_other, len
 use Rattle.cow_volume.proofs.Merging.{was_row}
 use Rattle.mirror_volume.specs.MirrorCalls.{IsFollowed, AreFollowed, IsFirstReady, IsHolder, IsQuiet, IsQuietDevice, IsCalled, IsMirrorRead, IsCalledFor}
 use Rattle.mirror_volume.specs.MirrorCalls.{IsImageRead}
-use Rattle.mirror_volume.specs.Mirrors.{is_held, MirrorValue, KeepsMirrors, AreMirrors, AreHeld, StandsFor, holds_of, mirror_over, is_ready}
+use Rattle.mirror_volume.specs.Mirrors.{is_held, MirrorValue, KeepsMirrors, AreHeld, StandsFor, holds_of, mirror_over, is_ready}
 use Rattle.mirror_volume.specs.Resync.{IsCopyOr, IsStep}
 use Rattle.mirror_volume.specs.declared.mirror.Mirror.{Mirror}
 use Rattle.mirror_volume.specs.declared.sync_fault.SyncFault.{SyncFault}
 use Rattle.mirror_volume.specs.declared.sync_fault.SyncFault.TheVariants.{HoldsImage, Volume as DeviceFailed}
 use Rattle.mirror_volume.specs.declared.synced.Synced.{Synced}
 use Rattle.mirror_volume.specs.declared.synced.Synced.TheVariants.{Copied, InStep}
-use Rattle.mirror_volume.proofs.Counts.{new_set}
 use Rattle.mirror_volume.proofs.Held.{map-slice_set, held_cut, held_drop, mirrors_one, mirrors_followed, holds_followed, mirrors_new, held_new}
 use Rattle.mirror_volume.proofs.Standing.{ready_holds, quiet_on_stands}
+use Rattle.mirror_volume.proofs.Counts.{not_below}
 
 -- ## Mirrors follow a write one after another.
 
@@ -82,11 +84,8 @@ held_not set holds is holding = grind arith
 pub keeps_new : {D : Type 0} → (size : D → ℕ) (stale : Bool) (primary : D) (devices : List D) (mirrors : List (Mirror D)) (images : Vec ℕ Global) → 0 < length devices → length devices ≤ 8
     → All (λ d. size d ≡ size primary) devices
     → mirrors ≡ map (mirror_over stale (size primary)) devices → images.items ≡ [] → 512 ≤ vec_capacity images → KeepsMirrors size primary mirrors images
-keeps_new {D = D} size stale primary devices mirrors images some few sized are none room = record {
-  are_mirrors = subst (λ (ms : List (Mirror D)). AreMirrors size (size primary) ms) (sym are) (mirrors_new size stale (size primary) devices some few sized);
-  are_held = subst (λ (is : List ℕ). AreHeld (holds_of mirrors) is) (sym none) (subst (λ (ms : List (Mirror D)). AreHeld (holds_of ms) []) (sym are) (held_new stale (size primary) devices));
-  room = room;
-}
+keeps_new {D = D} size stale primary devices mirrors images some few sized are none room =
+    grind (arith, common_steps, mirrors_new size stale (size primary) devices some few sized, held_new stale (size primary) devices)
 
 -- the primary is another state of the same device
 pub keeps_primary : {D : Type 0} → (size : D → ℕ) (primary now : D) (mirrors : List (Mirror D)) (images : Vec ℕ Global) → size now ≡ size primary → KeepsMirrors size primary mirrors images
@@ -96,26 +95,15 @@ keeps_primary size primary now mirrors images same keeps = grind arith
 pub keeps_written : {D : Type 0} → (ghosts : Ghosts D) (b : ℕ) (bytes : List ℕ) (primary now : D) (old new : List (Mirror D)) (images : Vec ℕ Global) → ghosts.size now ≡ ghosts.size primary
     → AreFollowed ghosts b bytes old new
     → KeepsMirrors ghosts.size primary old images → KeepsMirrors ghosts.size now new images
-keeps_written {D = D} ghosts b bytes primary now old new images same are keeps = record {
-  are_mirrors = subst (λ (n : ℕ). AreMirrors ghosts.size n new) (sym same) (mirrors_followed ghosts (ghosts.size primary) b bytes old new are keeps.are_mirrors);
-  are_held = subst (λ (holds : List (Option ℕ)). AreHeld holds images.items) (sym (holds_followed ghosts b bytes old new are)) keeps.are_held;
-  room = keeps.room;
-}
+keeps_written {D = D} ghosts b bytes primary now old new images same are keeps =
+    grind (arith, common_steps, mirrors_followed ghosts (ghosts.size primary) b bytes old new are keeps.are_mirrors, holds_followed ghosts b bytes old new are)
 
 -- one mirror changes, and holds what it held
 pub keeps_one : {D : Type 0} → (size : D → ℕ) (primary now : D) (mirrors : List (Mirror D)) (images : Vec ℕ Global) (k : ℕ) (m next : Mirror D) → size now ≡ size primary
     → slice_get mirrors k ≡ Some m → size next.device ≡ size m.device → length next.stale ≡ length m.stale → next.holds ≡ m.holds
     → KeepsMirrors size primary mirrors images → KeepsMirrors size now (slice_set mirrors k next) images
-keeps_one {D = D} size primary now mirrors images k m next same at sized long holds keeps = record {
-  are_mirrors = subst (λ (n : ℕ). AreMirrors size n (slice_set mirrors k next)) (sym same)
-      (mirrors_one size (size primary) k mirrors m next keeps.are_mirrors at (sized ∙ keeps.are_mirrors.sizes k m at) (long ∙ keeps.are_mirrors.stale k m at));
-  are_held = subst (λ (hs : List (Option ℕ)). AreHeld hs images.items)
-      (sym (map-slice_set (λ (x : Mirror D). x.holds) mirrors k next
-      ∙ same_set (holds_of mirrors) k m.holds next.holds (slice_get_map (λ (x : Mirror D). x.holds) mirrors k m at) holds)) keeps.are_held;
-  room = keeps.room;
-} where
-  same_set : {X : Type 0} (xs : List X) (i : ℕ) (x y : X) → slice_get xs i ≡ Some x → y ≡ x → slice_set xs i y ≡ xs
-  same_set xs i x y at same = ap (slice_set xs i) same ∙ slice_set-same xs i x at
+keeps_one {D = D} size primary now mirrors images k m next same at sized long holds keeps =
+    grind (arith, common_steps, nat_tests, map-slice_set, slice_get_map, slice_set-same, mirrors_one size (size primary) k mirrors m next keeps.are_mirrors)
 
 -- an image is cut
 pub keeps_cut : {D : Type 0} → (size : D → ℕ) (primary : D) (mirrors : List (Mirror D)) (images now : Vec ℕ Global) (k set : ℕ) (is : IsFirstReady mirrors k) → All (λ s. s < set) images.items
@@ -127,7 +115,7 @@ keeps_cut {D = D} size primary mirrors images now k set is below items room keep
       are_held = subst (λ (ss : List ℕ). AreHeld (holds_of (slice_set mirrors k next)) ss) (sym items)
           (subst (λ (hs : List (Option ℕ)). AreHeld hs (images.items ++ set ∷ [])) (sym (map-slice_set (λ (x : Mirror D). x.holds) mirrors k next))
           (held_cut (holds_of mirrors) images.items k set keeps.are_held (slice_get_map (λ (x : Mirror D). x.holds) mirrors k is.mirror is.was ∙ ap Some (ready_holds is.mirror is.ready))
-          (new_set set images.items below)));
+          (not_below set images.items below)));
       room = let before = keeps.room in omega arith;
     }
 
@@ -239,27 +227,12 @@ pub image_read_stands : {D : Type 0} → (ghosts : Ghosts D) (p : D) (mirrors : 
     → slice_get mirrors k ≡ Some x → IsMirrorRead ghosts x next b bytes result → (h : History) → StandsFor ghosts (value_of p mirrors images) h
     → StandsFor ghosts (value_of p (slice_set mirrors k next) images) h
 image_read_stands {D = D} ghosts p mirrors images k b x next bytes result at is h stood =
-    quiet_on_stands ghosts (value_of p mirrors images) (value_of p (slice_set mirrors k next) images) k x h
-    (record {
-      was = at;
-      after = next.device;
-      device = (call result is).device;
-      mirrors = ap (slice_set mirrors k)
-          (mirror_is x next (call result is).holds (call result is).stale);
-      primary = refl;
-      images = refl;
-    }) stood where
-      call : (r : Result Unit ImageFault) → IsMirrorRead ghosts x next b bytes r → IsCalled ghosts x next
-      call (Ok done) got = got.0
-      call (Err fault) got = got.0
+    grind (arith, common_steps, quiet_on_stands ghosts (value_of p mirrors images) (value_of p (slice_set mirrors k next) images) k x h, mirror_is x next)
 
 pub keeps_read : {D : Type 0} → (ghosts : Ghosts D) (p : D) (mirrors : List (Mirror D)) (images : Vec ℕ Global) (k b : ℕ) (x next : Mirror D) (bytes : List ℕ) (result : Result Unit ImageFault)
     → slice_get mirrors k ≡ Some x → IsMirrorRead ghosts x next b bytes result → KeepsMirrors ghosts.size p mirrors images → KeepsMirrors ghosts.size p (slice_set mirrors k next) images
 keeps_read {D = D} ghosts p mirrors images k b x next bytes result at is keeps =
-    keeps_one ghosts.size p p mirrors images k x next refl at (call result is).device.size_is (ap length (call result is).stale) (call result is).holds keeps where
-      call : (r : Result Unit ImageFault) → IsMirrorRead ghosts x next b bytes r → IsCalled ghosts x next
-      call (Ok done) got = got.0
-      call (Err fault) got = got.0
+    grind (arith, common_steps, keeps_one ghosts.size p p mirrors images k x next refl)
 
 -- ## steps of a mirror
 
@@ -288,8 +261,7 @@ pub keeps_synced : {D : Type 0} → (ghosts : Ghosts D) (p q : D) (mirrors : Lis
     → slice_get mirrors k ≡ Some m → IsStep ghosts p q m n result
     → KeepsMirrors ghosts.size p mirrors images → KeepsMirrors ghosts.size q (slice_set mirrors k n) images
 keeps_synced ghosts p q mirrors images k m n result at is keeps =
-    let sizes = step_sizes ghosts p q m n result is in
-    keeps_one ghosts.size p q mirrors images k m n sizes.0 at sizes.1 sizes.2 sizes.3 keeps
+    let sizes = step_sizes ghosts p q m n result is in grind (arith, common_steps, keeps_one ghosts.size p q mirrors images k m n sizes.0)
 
 -- ## writes
 
@@ -300,8 +272,7 @@ pub on_err : {T E : Type 0} → (r : Result T E) (P : Type 0) → is_err r ≡ t
 on_err r x1 e is = grind arith
 
 front_all : {X : Type 0} → (xs ys : List X) → take (length xs) (xs ++ ys) ≡ xs
-front_all [] ys = refl
-front_all (x ∷ xs) ys = ap (λ zs. x ∷ zs) (front_all xs ys)
+front_all xs ys = grind (arith, common_steps)
 
 -- what is written over all of a list
 pub all_over : {X : Type 0} → (len : ℕ) (new old : List X) → len ≡ length new → take len (new ++ drop (length new) old) ≡ new

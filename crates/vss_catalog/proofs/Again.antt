@@ -1,18 +1,19 @@
 -- Bytes that are read as a catalog are those that are written of it, and it is allowed.
-use Rattle.std.proofs.Common.{ℕ, zero, suc, ◌≡◌, ◌<◌, ◌≤◌, ◌+◌, ◌-◌, ◌*◌, Bool, true, false, if◌then◌else◌, nat_lt, nat_eq, List, [], ◌∷◌, ◌++◌, length, take}
-use Rattle.std.proofs.Common.{drop, codes, Result, Ok, Err, refl, sym, ap, ◌∙◌, arith}
+use Rattle.std.proofs.Common.{ℕ, zero, suc, ◌≡◌, ◌<◌, ◌≤◌, ◌+◌, ◌-◌, ◌*◌, Bool, true, false, if◌then◌else◌, nat_eq, List, [], ◌∷◌, ◌++◌, length}
+use Rattle.std.proofs.Common.{drop, codes, Result, Ok, Err, sym, ap, ◌∙◌, arith, rules}
 use Rattle.std.specs.List.{flat_map}
 use Rattle.std.specs.Str.{bytes_eq}
 use Rattle.std.proofs.lemmas.Bool.Decides.{nat_tests}
 use Rattle.std.proofs.lemmas.List.{append_assoc, take-append-drop, length-take-le, drop-drop}
+use Rattle.std.proofs.lemmas.Grind.{common_steps}
 use Rattle.block_data.specs.BlockBytes.{sha256}
 use Rattle.vss_catalog.specs.Entries.{AreRising, IsEntry, AreEntries, IsCatalog, AreBytes, EntryValue}
 use Rattle.vss_names.specs.Names.{is_name}
-use Rattle.vss_catalog.specs.Reading.{◌>>=◌, number_in, name_of_length, name_in, blocks_in, count_in, set_in, sets_in, entry_in, end_in, entries_in}
+use Rattle.vss_catalog.specs.Reading.{◌>>=◌, name_of_length, name_in, blocks_in, count_in, set_in, sets_in, entry_in, end_in, entries_in}
 use Rattle.vss_catalog.specs.Reading.{letters_in, volumes_in, body_in, front_of, is_sealed, catalog_in}
 use Rattle.vss_catalog.specs.Written.{number_bytes, entry_bytes, size_of, body_of, bytes_of}
 use Rattle.vss_catalog.specs.declared.catalog_fault.CatalogFault.{CatalogFault}
-use Rattle.vss_catalog.specs.declared.catalog_fault.CatalogFault.TheVariants.{Digest, Magic, Short, Order}
+use Rattle.vss_catalog.specs.declared.catalog_fault.CatalogFault.TheVariants.{Digest}
 use Rattle.vss_catalog.proofs.Steps.{number-again, bytes-past, bytes-in, passed, if_true, is_at_most, is_below, is_not_below}
 use Rattle.diff_area.proofs.GoodRecords.{and_left, and_right}
 
@@ -39,15 +40,7 @@ record StartsWithName (rest name : List ℕ) : Type 0 where
 
 name-again : (v at : ℕ) (rest name : List ℕ) → AreBytes rest → name_in v at rest ≡ Ok name → StartsWithName rest name
 unfolding name_in
-name-again v at rest name are h =
-    let p = passed (number_in at rest) (λ len. name_of_length v (at + 4) (drop 4 rest) len) name h in
-    let n = number-again at p.value rest are p.first in
-    let is = name_of-again v (at + 4) p.value (drop 4 rest) name p.next in
-    record {
-      named = is.named;
-      bytes = n.bytes ∙ ap (λ (k : ℕ). number_bytes k ++ drop 4 rest) (sym is.len_is)
-          ∙ ap (λ (xs : List ℕ). number_bytes (length name) ++ xs) (is.bytes ∙ ap (λ (xs : List ℕ). name ++ xs) (drop-drop (length name) 4 rest));
-    }
+name-again v at rest name are h = grind (arith, passed, number-again, name_of-again, drop-drop)
 
 -- ## numbers
 
@@ -61,14 +54,7 @@ count-again v at n rest are h = grind (arith, passed, if_true, is_at_most, numbe
 
 set-again : (v last at set : ℕ) (rest : List ℕ) → AreBytes rest → set_in v last at rest ≡ Ok set → (last < set) × (set < 4294967296) × (rest ≡ number_bytes set ++ drop 4 rest)
 unfolding set_in
-set-again v last at set rest are h =
-    let p = passed (number_in at rest) (λ m. if nat_lt last m then Ok m else Err (Order v at)) set h in
-    let test = if_true _ p.value set (Order v at) p.next in
-    let high = is_below last p.value test.0 in
-    let is = number-again at p.value rest are p.first in
-    let narrow = is.narrow in
-    let same = test.1 in
-    (omega arith, omega arith, is.bytes ∙ ap (λ (k : ℕ). number_bytes k ++ drop 4 rest) same)
+set-again v last at set rest are h = grind (arith, common_steps, passed, if_true, is_below, number-again)
 
 pub record StartsWithSets (n last : ℕ) (rest sets : List ℕ) : Type 0 where
   pub rise : AreRising last sets
@@ -82,15 +68,8 @@ sets-one : (n last set : ℕ) (rest more sets : List ℕ) → last < set → set
     → StartsWithSets n set (drop 4 rest) more → set ∷ more ≡ sets → StartsWithSets (suc n) last rest sets
 sets-one n last set rest more [] low high e is same = absurd cc
 sets-one n last set rest more (s ∷ sets) low high e is same =
-    let head : set ≡ s = cc in
-    let tail : more ≡ sets = cc in
-    let k : 4 + 4 * length more ≡ 4 * suc (length more) = omega arith in
-    let bytes : rest ≡ flat_map number_bytes (set ∷ more) ++ drop (4 * length (set ∷ more)) rest =
-    e ∙ ap (λ (xs : List ℕ). number_bytes set ++ xs) (is.bytes ∙ ap (λ (xs : List ℕ). flat_map number_bytes more ++ xs) (drop-drop (4 * length more) 4 rest ∙ ap (λ (m : ℕ). drop m rest) k))
-    ∙ sym (append_assoc (number_bytes set) (flat_map number_bytes more) (drop (4 * suc (length more)) rest))
-    in
-    let all : StartsWithSets (suc n) last rest (set ∷ more) = record { rise = (low, high, is.rise); many = ap suc is.many; bytes = bytes } in
-    rw same at all
+    let fact = append_assoc (number_bytes set) (flat_map number_bytes more) (drop (4 * suc (length more)) rest) in
+    grind (arith, common_steps, drop-drop (4 * length more) 4 rest)
 
 pub sets-again : (v n last at : ℕ) (rest sets : List ℕ) → AreBytes rest → sets_in v n last at rest ≡ Ok sets → StartsWithSets n last rest sets
 unfolding sets_in
@@ -117,17 +96,7 @@ entry-joined : (rest name sets : List ℕ) (blocks : ℕ)
     → rest ≡ entry_bytes (record { name = name; blocks = blocks; images = sets }) ++ drop (12 + length name + 4 * length sets) rest
 unfolding entry_bytes
 entry-joined rest name sets blocks a b c d =
-    let k : 4 + length name + 4 ≡ 8 + length name = omega arith in
-    let l : 8 + length name + 4 ≡ 12 + length name = omega arith in
-    let left = drop (12 + length name + 4 * length sets) rest in
-    let d2 : drop (12 + length name) rest ≡ flat_map number_bytes sets ++ left = d ∙ ap (λ (xs : List ℕ). flat_map number_bytes sets ++ xs) (drop-drop (4 * length sets) (12 + length name) rest) in
-    let c2 : drop (8 + length name) rest ≡ number_bytes (length sets) ++ (flat_map number_bytes sets ++ left) =
-    c ∙ ap (λ (xs : List ℕ). number_bytes (length sets) ++ xs) (drop-drop 4 (8 + length name) rest ∙ ap (λ (n : ℕ). drop n rest) l ∙ d2) in
-    let b2 : drop (4 + length name) rest ≡ number_bytes blocks ++ (number_bytes (length sets) ++ (flat_map number_bytes sets ++ left)) =
-    b ∙ ap (λ (xs : List ℕ). number_bytes blocks ++ xs) (drop-drop 4 (4 + length name) rest ∙ ap (λ (n : ℕ). drop n rest) k ∙ c2) in
-    let grouped : number_bytes (length name) ++ (name ++ (number_bytes blocks ++ (number_bytes (length sets) ++ (flat_map number_bytes sets ++ left))))
-    ≡ number_bytes (length name) ++ name ++ number_bytes blocks ++ number_bytes (length sets) ++ flat_map number_bytes sets ++ left = simp append_assoc in
-    a ∙ ap (λ (xs : List ℕ). number_bytes (length name) ++ (name ++ xs)) b2 ∙ grouped
+    grind (arith, common_steps, drop-drop (4 * length sets) (12 + length name) rest, drop-drop 4 (8 + length name) rest, drop-drop 4 (4 + length name) rest)
 
 entry-again : (v at : ℕ) (rest : List ℕ) (e : EntryValue) → AreBytes rest → entry_in v at rest ≡ Ok e → StartsWithEntry rest e
 unfolding entry_in
@@ -179,20 +148,11 @@ alike_one : (x y : ℕ) → nat_eq x y ≡ true → x ≡ y
 alike_one x y h = grind (arith, nat_tests)
 
 alike : (xs ys : List ℕ) → bytes_eq xs ys ≡ true → xs ≡ ys
-alike [] [] h = refl
-alike [] (y ∷ ys) h = absurd cc
-alike (x ∷ xs) [] h = absurd cc
-alike (x ∷ xs) (y ∷ ys) h =
-    let head : x ≡ y = alike_one x y (and_left _ _ h) in
-    rw head (ap (λ (zs : List ℕ). y ∷ zs) (alike xs ys (and_right _ _ h)))
+alike xs ys h = search (rules, alike_one, and_left, and_right)
 
 letters-again : (body rest : List ℕ) → letters_in body ≡ Ok rest → (rest ≡ drop 8 body) × (body ≡ codes "VSSCAT01" ++ rest)
 unfolding letters_in
-letters-again body rest h =
-    let long = not_if _ _ rest (Short 0) h in
-    let test = if_true _ (drop 8 body) rest Magic long.1 in
-    let front : take 8 body ≡ codes "VSSCAT01" = sym (alike (codes "VSSCAT01") (take 8 body) test.0) in
-    (sym test.1, sym (take-append-drop 8 body) ∙ ap (λ (xs : List ℕ). xs ++ drop 8 body) front ∙ ap (λ (xs : List ℕ). codes "VSSCAT01" ++ xs) test.1)
+letters-again body rest h = search (rules, not_if, if_true, alike, take-append-drop)
 
 volumes-again : (n : ℕ) (rest : List ℕ) → AreBytes rest → volumes_in rest ≡ Ok n → (0 < n) × (n ≤ 128) × (rest ≡ number_bytes n ++ drop 4 rest)
 unfolding volumes_in
@@ -218,15 +178,11 @@ body-again body es are h =
     let v = volumes-again q.value rest bytes q.first in
     let w = entries-again q.value 0 12 (drop 4 rest) es (bytes-past 4 rest bytes) q.next in
     let many = w.many in
-    let low = v.0 in
-    let high = v.1 in
     record { is = record { some = omega arith; few = omega arith; each = w.each }; bytes = body-joined body rest q.value es l.1 v.2 many w.bytes }
 
 sealed-again : (bytes : List ℕ) → is_sealed bytes ≡ true → bytes ≡ front_of bytes ++ sha256 (front_of bytes)
 unfolding is_sealed
-sealed-again bytes h =
-    let tail = alike (sha256 (front_of bytes)) (drop (length bytes - 32) bytes) (and_right _ _ h) in
-    sym (take-append-drop (length bytes - 32) bytes) ∙ ap (λ (xs : List ℕ). front_of bytes ++ xs) (sym tail)
+sealed-again bytes h = search (rules, alike, and_right, take-append-drop)
 
 opened : (bytes : List ℕ) (es : List EntryValue) → AreBytes bytes → catalog_in bytes ≡ Ok es → (is_sealed bytes ≡ true) × IsBody (front_of bytes) es
 unfolding catalog_in
@@ -236,9 +192,7 @@ opened bytes es are h =
 
 pub catalog-again : (bytes : List ℕ) (es : List EntryValue) → AreBytes bytes → catalog_in bytes ≡ Ok es → bytes_of es ≡ bytes
 unfolding bytes_of
-catalog-again bytes es are h =
-    let o = opened bytes es are h in
-    ap (λ (body : List ℕ). body ++ sha256 body) o.1.bytes ∙ sym (sealed-again bytes o.0)
+catalog-again bytes es are h = let o = opened bytes es are h in grind (arith, common_steps, sealed-again)
 
 pub catalog-allowed : (bytes : List ℕ) (es : List EntryValue) → AreBytes bytes → catalog_in bytes ≡ Ok es → IsCatalog es
 catalog-allowed bytes es are h = (opened bytes es are h).1.is

@@ -1,17 +1,19 @@
 -- What is written of a catalog is read back.
-use Rattle.std.proofs.Common.{ℕ, zero, suc, ◌≡◌, ◌<◌, ◌≤◌, ◌+◌, ◌-◌, ◌*◌, true, nat_eq, List, [], ◌∷◌, ◌++◌, length, drop, codes, slice_get, Ok, refl, sym, ap, ◌∙◌, arith}
+use Rattle.std.proofs.Common.{ℕ, zero, suc, ◌≡◌, ◌<◌, ◌≤◌, ◌+◌, ◌-◌, ◌*◌, true, nat_eq, List, [], ◌∷◌, ◌++◌, length, drop, codes, slice_get, Ok, refl, ap, ◌∙◌, arith}
 use Rattle.std.specs.List.{flat_map}
 use Rattle.std.specs.Str.{bytes_eq}
 use Rattle.std.proofs.lemmas.Bool.Decides.{nat_tests}
 use Rattle.std.proofs.lemmas.List.{append_assoc, length-append, drop_at, take_at, drop-drop}
-use Rattle.std.proofs.lemmas.Bool.{and_from}
+use Rattle.std.proofs.lemmas.Bool.{and_from, cond-true}
+use Rattle.std.proofs.Common.{rules}
+use Rattle.std.proofs.lemmas.Grind.{common_steps}
 use Rattle.sha2.proofs.Facts256.{length-sha256}
 use Rattle.block_data.specs.BlockBytes.{sha256}
 use Rattle.vss_catalog.specs.Entries.{AreRising, IsEntry, AreEntries, IsCatalog, EntryValue, are_names, bytes_in}
 use Rattle.vss_names.specs.Names.{TextValue, is_name}
-use Rattle.vss_catalog.specs.Reading.{◌>>=◌, name_of_length, name_in, blocks_in, count_in, set_in, sets_in, entry_in, entries_in, letters_in, volumes_in, body_in, front_of, is_sealed, catalog_in}
+use Rattle.vss_catalog.specs.Reading.{name_of_length, name_in, blocks_in, count_in, set_in, sets_in, entry_in, entries_in, letters_in, volumes_in, body_in, front_of, is_sealed, catalog_in}
 use Rattle.vss_catalog.specs.Written.{number_bytes, entry_bytes, size_of, body_of, bytes_of}
-use Rattle.vss_catalog.proofs.Steps.{length-number_bytes, number-back, past-number, then, passes, fails, at_most, is_at_most, below, not_below}
+use Rattle.vss_catalog.proofs.Steps.{length-number_bytes, number-back, past-number, then, fails, at_most, is_at_most, below, not_below}
 use Rattle.diff_area.proofs.GoodRecords.{and_left, and_right}
 
 -- ## names
@@ -21,7 +23,7 @@ unfolding is_name
 name-bounds name h = grind (arith, and_left, is_at_most, and_right)
 
 name_of-back : (v at : ℕ) (name rest : List ℕ) → is_name name ≡ true → name_of_length v at (name ++ rest) (length name) ≡ Ok name
-name_of-back v at name rest h = grind (arith, name-bounds, length-append, take_at, passes, and_from, at_most, fails, not_below)
+name_of-back v at name rest h = grind (arith, name-bounds, length-append, take_at, cond-true, and_from, at_most, fails, not_below)
 
 pub name-back : (v at : ℕ) (name rest : List ℕ) → is_name name ≡ true → name_in v at (number_bytes (length name) ++ (name ++ rest)) ≡ Ok name
 unfolding name_in
@@ -31,25 +33,20 @@ name-back v at name rest h = grind (arith, name-bounds, then, number-back, past-
 
 blocks-back : (v at n : ℕ) (rest : List ℕ) → 0 < n → n ≤ 65536 → blocks_in v at (number_bytes n ++ rest) ≡ Ok n
 unfolding blocks_in
-blocks-back v at n rest low high = grind (arith, then, number-back, passes, and_from, at_most)
+blocks-back v at n rest low high = grind (arith, then, number-back, cond-true, and_from, at_most)
 
 count-back : (v at n : ℕ) (rest : List ℕ) → n ≤ 512 → count_in v at (number_bytes n ++ rest) ≡ Ok n
 unfolding count_in
-count-back v at n rest high = grind (arith, then, number-back, passes, at_most)
+count-back v at n rest high = grind (arith, then, number-back, cond-true, at_most)
 
 set-back : (v last at set : ℕ) (rest : List ℕ) → last < set → set < 4294967296 → set_in v last at (number_bytes set ++ rest) ≡ Ok set
 unfolding set_in
-set-back v last at set rest low high = grind (arith, then, number-back, passes, below)
+set-back v last at set rest low high = grind (arith, then, number-back, cond-true, below)
 
 pub sets-back : (v last at : ℕ) (sets rest : List ℕ) → AreRising last sets → sets_in v (length sets) last at (flat_map number_bytes sets ++ rest) ≡ Ok sets
 unfolding sets_in
 sets-back v last at [] rest h = refl
-sets-back v last at (set ∷ sets) rest h =
-    let more = flat_map number_bytes sets ++ rest in
-    ap (sets_in v (suc (length sets)) last at) (append_assoc (number_bytes set) (flat_map number_bytes sets) rest)
-    ∙ then _ _ set (Ok (set ∷ sets)) (set-back v last at set more h.0 h.1)
-    (ap (λ (xs : List ℕ). sets_in v (length sets) set (at + 4) xs >>= (λ s. Ok (set ∷ s))) (past-number set more)
-    ∙ then _ _ sets (Ok (set ∷ sets)) (sets-back v set (at + 4) sets rest h.2) refl)
+sets-back v last at (set ∷ sets) rest h = grind (arith, common_steps, append_assoc, then, set-back, past-number, sets-back v set (at + 4) sets rest h.2)
 
 -- ## entries
 
@@ -64,20 +61,17 @@ past-name : (name rest : List ℕ) → drop (4 + length name) (number_bytes (len
 past-name name rest =
     let l = length-number_bytes (length name) in
     let k = length-append (number_bytes (length name)) name in
-    ap (drop (4 + length name)) (sym (append_assoc (number_bytes (length name)) name rest))
-    ∙ drop_at (number_bytes (length name) ++ name) rest (4 + length name) (omega arith)
+    grind (arith, common_steps, append_assoc, drop_at)
 
 past-blocks : (name rest : List ℕ) (n : ℕ) → drop (8 + length name) (number_bytes (length name) ++ (name ++ (number_bytes n ++ rest))) ≡ rest
 past-blocks name rest n =
-    let k : 8 + length name ≡ 4 + length name + 4 = omega arith in
     let bytes = number_bytes (length name) ++ (name ++ (number_bytes n ++ rest)) in
-    ap (λ (m : ℕ). drop m bytes) k ∙ sym (drop-drop 4 (4 + length name) bytes) ∙ ap (drop 4) (past-name name (number_bytes n ++ rest)) ∙ past-number n rest
+    grind (arith, common_steps, drop-drop 4 (4 + length name) bytes, past-name name (number_bytes n ++ rest), past-number n rest)
 
 past-count : (name rest : List ℕ) (n m : ℕ) → drop (12 + length name) (number_bytes (length name) ++ (name ++ (number_bytes n ++ (number_bytes m ++ rest)))) ≡ rest
 past-count name rest n m =
-    let k : 12 + length name ≡ 8 + length name + 4 = omega arith in
     let bytes = number_bytes (length name) ++ (name ++ (number_bytes n ++ (number_bytes m ++ rest))) in
-    ap (λ (j : ℕ). drop j bytes) k ∙ sym (drop-drop 4 (8 + length name) bytes) ∙ ap (drop 4) (past-blocks name (number_bytes m ++ rest) n) ∙ past-number m rest
+    grind (arith, common_steps, drop-drop 4 (8 + length name) bytes, past-blocks name (number_bytes m ++ rest) n, past-number m rest)
 
 parts-back : (v at : ℕ) (e : EntryValue) (rest : List ℕ) → IsEntry e
     → entry_in v at (number_bytes (length e.name) ++ (e.name ++ (number_bytes e.blocks ++ (number_bytes (length e.images) ++ (flat_map number_bytes e.images ++ rest))))) ≡ Ok e
@@ -89,11 +83,7 @@ entry-back v at e rest is = ap (entry_in v at) (parts e rest) ∙ parts-back v a
 
 pub length-numbers : (ns : List ℕ) → length (flat_map number_bytes ns) ≡ 4 * length ns
 length-numbers [] = refl
-length-numbers (n ∷ ns) =
-    let a = length-append (number_bytes n) (flat_map number_bytes ns) in
-    let b = length-number_bytes n in
-    let c = length-numbers ns in
-    omega arith
+length-numbers (n ∷ ns) = grind (arith, common_steps, length-append, length-number_bytes, length-numbers ns)
 
 pub length-entry : (e : EntryValue) → length (entry_bytes e) ≡ size_of e
 unfolding entry_bytes
@@ -102,11 +92,7 @@ length-entry e = grind (arith, length-append, length-number_bytes, length-number
 entries-back : (v at : ℕ) (es : List EntryValue) → AreEntries es → entries_in (length es) v at (flat_map entry_bytes es) ≡ Ok es
 unfolding entries_in
 entries-back v at [] h = refl
-entries-back v at (e ∷ es) h =
-    let more = flat_map entry_bytes es in
-    then _ _ e (Ok (e ∷ es)) (entry-back v at e more h.0)
-    (ap (λ (xs : List ℕ). entries_in (length es) (v + 1) (at + size_of e) xs >>= (λ s. Ok (e ∷ s))) (drop_at (entry_bytes e) more (size_of e) (length-entry e))
-    ∙ then _ _ es (Ok (e ∷ es)) (entries-back (v + 1) (at + size_of e) es h.1) refl)
+entries-back v at (e ∷ es) h = grind (arith, common_steps, then, entry-back, drop_at, length-entry, entries-back (v + 1) (at + size_of e) es h.1)
 
 -- ## the whole
 
@@ -116,7 +102,7 @@ letters-back rest = grind (arith, length-append, fails, not_below)
 
 volumes-back : (n : ℕ) (rest : List ℕ) → 0 < n → n ≤ 128 → volumes_in (number_bytes n ++ rest) ≡ Ok n
 unfolding volumes_in
-volumes-back n rest low high = grind (arith, then, number-back, passes, and_from, at_most)
+volumes-back n rest low high = grind (arith, then, number-back, cond-true, and_from, at_most)
 
 body-back : (es : List EntryValue) → IsCatalog es → body_in (body_of es) ≡ Ok es
 unfolding body_in body_of
@@ -126,8 +112,7 @@ equal : (n : ℕ) → nat_eq n n ≡ true
 equal n = grind (arith, nat_tests)
 
 same : (xs : List ℕ) → bytes_eq xs xs ≡ true
-same [] = refl
-same (x ∷ xs) = and_from (nat_eq x x) (bytes_eq xs xs) (equal x) (same xs)
+same xs = search (rules, and_from, equal, nat_eq)
 
 pub front-back : (body : List ℕ) → front_of (body ++ sha256 body) ≡ body
 front-back body = grind (arith, length-append, length-sha256, take_at)
@@ -138,7 +123,7 @@ seal-back body = grind (arith, length-append, length-sha256, drop_at, and_from, 
 
 pub catalog-back : (es : List EntryValue) → IsCatalog es → catalog_in (bytes_of es) ≡ Ok es
 unfolding catalog_in bytes_of
-catalog-back es is = grind (arith, passes, seal-back, front-back, body-back)
+catalog-back es is = grind (arith, cond-true, seal-back, front-back, body-back)
 
 -- each of these names is short
 pub short_name : (names : List TextValue) (at : ℕ) → are_names names ≡ true → length (bytes_in (slice_get names at)) ≤ 32

@@ -1,11 +1,11 @@
 -- The entries of a group and its names, and the lists with which a group is taken up again.
-use Rattle.std.proofs.Common.{ℕ, zero, suc, ◌≡◌, ◌<◌, ◌≤◌, ◌+◌, ◌^◌, true, List, [], ◌∷◌, ◌++◌, length, map, slice_get, refl, sym, subst, ap, ◌∙◌, arith, Some}
+use Rattle.std.proofs.Common.{ℕ, zero, suc, ◌≡◌, ◌<◌, ◌≤◌, ◌+◌, ◌^◌, true, List, [], ◌∷◌, ◌++◌, length, map, slice_get, refl, sym, ap, ◌∙◌, arith, Some}
 use Rattle.std.proofs.Common.{All, get_or, add-zero}
-use Rattle.std.proofs.lemmas.List.Elements.{All-cons}
 use Rattle.std.proofs.lemmas.List.FromFn.{map-range_with_len_more}
 use Rattle.std.proofs.lemmas.List.Kept.{AllPairs-cons}
 use Rattle.std.proofs.lemmas.Option.{get_or_from_slice_get}
 use Rattle.std.specs.List.{range_with_len, AllPairs}
+use Rattle.std.proofs.lemmas.Grind.{common_steps}
 use Rattle.vss_names.specs.Names.{is_name, TextValue}
 use Rattle.diff_map.specs.Copies.{AreImages}
 use Rattle.diff_area.specs.Format.{AreVolumes}
@@ -26,9 +26,7 @@ each_name g names h = and_right _ _ h
 
 pub entries-next : {D : Type 0} (g : GroupValue D) (names : List TextValue) (v : ℕ) (e : EntryValue) (old new : List EntryValue)
     → new ≡ old ++ e ∷ [] → old ≡ map (entry_at g names) (range_with_len 0 v) → e ≡ entry_at g names v → new ≡ map (entry_at g names) (range_with_len 0 (v + 1))
-entries-next g names v e old new is so h =
-    is ∙ ap (λ (es : List EntryValue). es ++ e ∷ []) so ∙ ap (λ (x : EntryValue). map (entry_at g names) (range_with_len 0 v) ++ x ∷ []) h
-    ∙ sym (map-range_with_len_more (entry_at g names) 0 v v (omega arith))
+entries-next g names v e old new is so h = grind (arith, common_steps, map-range_with_len_more (entry_at g names) 0 v v (omega arith))
 
 pub is_entry : {D : Type 0} (g : GroupValue D) (names : List TextValue) (v : ℕ) (e : EntryValue) (name : List ℕ) (blocks : ℕ) (sets : List ℕ)
     → e ≡ record { name = name; blocks = blocks; images = sets }
@@ -69,13 +67,7 @@ module _ {D : Type 0} (g : GroupValue D) (names : List TextValue) (named : are_n
       let bounds = volumes.each v blocks.0 l in
       let over = bounds.0 in
       let under = bounds.1 in
-      record {
-        named = a_name names v (each_name g names named) (omega arith);
-        some = omega arith;
-        most = omega arith;
-        few = subst (λ (ss : List ℕ). length ss ≤ 512) (sym sets_are) are.few;
-        rise = subst (λ (ss : List ℕ). AreRising 0 ss) (sym sets_are) (images_rise sets.0 are);
-      }
+      grind (arith, common_steps, a_name, each_name, images_rise)
 
   entries_allowed : (first n : ℕ) → first + n ≤ length g.area.volumes → AreEntries (map (entry_at g names) (range_with_len first n))
   entries_allowed first zero l = tt
@@ -94,9 +86,7 @@ module _ {D : Type 0} (g : GroupValue D) (names : List TextValue) (named : are_n
 
 all_above : (last : ℕ) (sets : List ℕ) → AreRising last sets → All (λ s. last < s) sets
 all_above last [] rise = λ k d l. absurd (omega arith)
-all_above last (s ∷ rest) rise =
-    let low : last < s = rise.0 in
-    All-cons (λ t. last < t) s rest low (λ k d l. let above = all_above s rest rise.2 k d l in omega arith)
+all_above last (s ∷ rest) rise = grind (arith, common_steps, all_above s rest rise.2)
 
 ascending : (last : ℕ) (sets : List ℕ) → AreRising last sets → AllPairs (λ s t. s < t) sets
 ascending last [] rise = λ i j d l inside. absurd (omega arith)
@@ -104,15 +94,11 @@ ascending last (s ∷ rest) rise = AllPairs-cons (λ x y. x < y) s rest (all_abo
 
 in_range : (last : ℕ) (sets : List ℕ) → AreRising last sets → All (λ s. (0 < s) × (s < 2 ^ 32)) sets
 in_range last [] rise = λ k d l. absurd (omega arith)
-in_range last (s ∷ rest) rise =
-    let low : last < s = rise.0 in
-    let above : 0 < s = omega arith in
-    All-cons (λ t. (0 < t) × (t < 2 ^ 32)) s rest (above, rise.1) (in_range s rest rise.2)
+in_range last (s ∷ rest) rise = grind (arith, common_steps, in_range s rest rise.2)
 
 lists_allowed : (entries : List EntryValue) → AreEntries entries → All AreImages (lists_of entries)
 lists_allowed [] are = λ k d l. absurd (omega arith)
-lists_allowed (e ∷ es) are =
-    All-cons AreImages e.images (lists_of es) (record { ascend = ascending 0 e.images are.0.rise; above_zero = in_range 0 e.images are.0.rise; few = are.0.few }) (lists_allowed es are.1)
+lists_allowed (e ∷ es) are = grind (arith, common_steps, lists_allowed es are.1, ascending 0 e.images are.0.rise, in_range 0 e.images are.0.rise)
 
 pub catalog_lists : (entries : List EntryValue) → IsCatalog entries → All AreImages (lists_of entries)
 catalog_lists entries is = lists_allowed entries is.each

@@ -1,8 +1,9 @@
 -- Steps of the reading: what follows one, numbers as they are written and read, and what was read so far with what is still to be read.
 use Rattle.std.proofs.Common.{ℕ, ◌≡◌, ◌<◌, ◌≤◌, Bool, true, false, cond, nat_lt, nat_le, List, [], ◌∷◌, ◌++◌, Result, Ok, Err, IfErr, IsErrAnd, ap, ◌∙◌, arith}
-use Rattle.std.proofs.Common.{zero, suc, ◌+◌, ◌*◌, ◌/◌, ◌%◌, length, take, drop, sym, ◌-◌, refl}
+use Rattle.std.proofs.Common.{zero, suc, ◌+◌, ◌*◌, ◌/◌, ◌%◌, length, take, drop, ◌-◌, refl}
 use Rattle.std.proofs.lemmas.Bool.Decides.{nat_tests}
 use Rattle.std.proofs.lemmas.List.{append-nil, append_assoc, length-append, drop_at, drop-drop, drop_all}
+use Rattle.std.proofs.lemmas.Grind.{common_steps}
 use Rattle.byteorder.specs.Endian.{little_number}
 use Rattle.byteorder.specs.Numbers.{little_number-reads_back, length-bytes_low_first}
 use Rattle.vss_catalog.specs.Entries.{AreBytes, EntryValue}
@@ -34,9 +35,6 @@ if_true b x y f h = grind arith
 
 pub if_false : {A : Type 0} (b : Bool) (x y : A) (f : CatalogFault) → cond b (Err f) (Ok x) ≡ Ok y → (b ≡ false) × (x ≡ y)
 if_false b x y f h = grind arith
-
-pub passes : {A : Type 0} (b : Bool) (x y : A) → b ≡ true → cond b x y ≡ x
-passes b x y e = grind arith
 
 pub fails : {A : Type 0} (b : Bool) (x y : A) → b ≡ false → cond b x y ≡ y
 fails b x y e = grind arith
@@ -129,9 +127,7 @@ of_bytes [] n are h e = absurd (omega arith)
 of_bytes (a ∷ []) n are h e = absurd (omega arith)
 of_bytes (a ∷ b ∷ []) n are h e = absurd (omega arith)
 of_bytes (a ∷ b ∷ c ∷ []) n are h e = absurd (omega arith)
-of_bytes (a ∷ b ∷ c ∷ d ∷ more) n are h e =
-    let again = bytes-again a b c d more are.0 are.1.0 are.1.1.0 are.1.1.1.0 in
-    record { narrow = rw e at again.0; enough = h; bytes = ap (λ (front : List ℕ). front ++ more) (sym again.1) ∙ ap (λ (k : ℕ). number_bytes k ++ more) e }
+of_bytes (a ∷ b ∷ c ∷ d ∷ more) n are h e = grind (arith, common_steps, bytes-again a b c d more are.0 are.1.0 are.1.1.0 are.1.1.1.0)
 
 -- a number that is read was written so
 pub number-again : (at n : ℕ) (rest : List ℕ) → AreBytes rest → number_in at rest ≡ Ok n → IsNumber n rest
@@ -162,13 +158,7 @@ sets-first v n last at set rest sets e = grind (arith, after-one)
 pub sets-step : (v count k last at set : ℕ) (rest sets : List ℕ) → k < count → set_in v last (at + 4 * k) (drop (4 * k) rest) ≡ Ok set
     → after sets (sets_in v (count - k) last (at + 4 * k) (drop (4 * k) rest)) ≡ after (sets ++ set ∷ []) (sets_in v (count - (k + 1)) set (at + 4 * (k + 1)) (drop (4 * (k + 1)) rest))
 sets-step v count k last at set rest sets h e =
-    let n : count - k ≡ suc (count - (k + 1)) = omega arith in
-    let place : at + 4 * k + 4 ≡ at + 4 * (k + 1) = omega arith in
-    let more : 4 * k + 4 ≡ 4 * (k + 1) = omega arith in
-    ap (λ (m : ℕ). after sets (sets_in v m last (at + 4 * k) (drop (4 * k) rest))) n
-    ∙ sets-first v (count - (k + 1)) last (at + 4 * k) set (drop (4 * k) rest) sets e
-    ∙ ap (λ (a : ℕ). after (sets ++ set ∷ []) (sets_in v (count - (k + 1)) set a (drop 4 (drop (4 * k) rest)))) place
-    ∙ ap (λ (xs : List ℕ). after (sets ++ set ∷ []) (sets_in v (count - (k + 1)) set (at + 4 * (k + 1)) xs)) (drop-drop 4 (4 * k) rest ∙ ap (λ (m : ℕ). drop m rest) more)
+    grind (arith, common_steps, sets-first v (count - (k + 1)) last (at + 4 * k) set (drop (4 * k) rest) sets e, drop-drop 4 (4 * k) rest)
 
 sets-first-fault : (v n last at : ℕ) (f : CatalogFault) (rest sets : List ℕ) → set_in v last at rest ≡ Err f → after sets (sets_in v (suc n) last at rest) ≡ Err f
 unfolding sets_in
@@ -176,10 +166,7 @@ sets-first-fault v n last at f rest sets e = grind arith
 
 pub sets-fault : (v count k last at : ℕ) (f : CatalogFault) (rest sets : List ℕ) → k < count → set_in v last (at + 4 * k) (drop (4 * k) rest) ≡ Err f
     → after sets (sets_in v (count - k) last (at + 4 * k) (drop (4 * k) rest)) ≡ Err f
-sets-fault v count k last at f rest sets h e =
-    let n : count - k ≡ suc (count - (k + 1)) = omega arith in
-    ap (λ (m : ℕ). after sets (sets_in v m last (at + 4 * k) (drop (4 * k) rest))) n
-    ∙ sets-first-fault v (count - (k + 1)) last (at + 4 * k) f (drop (4 * k) rest) sets e
+sets-fault v count k last at f rest sets h e = let n : count - k ≡ suc (count - (k + 1)) = omega arith in grind (arith, common_steps, sets-first-fault)
 
 pub sets-end : (v count k last at : ℕ) (rest sets : List ℕ) → count ≤ k → after sets (sets_in v (count - k) last at rest) ≡ Ok sets
 unfolding sets_in
@@ -198,12 +185,7 @@ entries-first n v at e rest es h = grind (arith, after-one)
 pub entries-step : (count v from : ℕ) (e : EntryValue) (rest : List ℕ) (es : List EntryValue) → v < count → entry_in v (12 + from) (drop from rest) ≡ Ok e
     → after es (entries_in (count - v) v (12 + from) (drop from rest)) ≡ after (es ++ e ∷ []) (entries_in (count - (v + 1)) (v + 1) (12 + (from + size_of e)) (drop (from + size_of e) rest))
 entries-step count v from e rest es h is =
-    let n : count - v ≡ suc (count - (v + 1)) = omega arith in
-    let place : 12 + from + size_of e ≡ 12 + (from + size_of e) = omega arith in
-    ap (λ (m : ℕ). after es (entries_in m v (12 + from) (drop from rest))) n
-    ∙ entries-first (count - (v + 1)) v (12 + from) e (drop from rest) es is
-    ∙ ap (λ (a : ℕ). after (es ++ e ∷ []) (entries_in (count - (v + 1)) (v + 1) a (drop (size_of e) (drop from rest)))) place
-    ∙ ap (λ (xs : List ℕ). after (es ++ e ∷ []) (entries_in (count - (v + 1)) (v + 1) (12 + (from + size_of e)) xs)) (drop-drop (size_of e) from rest)
+    grind (arith, common_steps, entries-first (count - (v + 1)) v (12 + from) e (drop from rest) es is, drop-drop (size_of e) from rest)
 
 entries-first-fault : (n v at : ℕ) (f : CatalogFault) (rest : List ℕ) (es : List EntryValue) → entry_in v at rest ≡ Err f → after es (entries_in (suc n) v at rest) ≡ Err f
 unfolding entries_in
@@ -212,9 +194,7 @@ entries-first-fault n v at f rest es h = grind arith
 pub entries-fault : (count v from : ℕ) (f : CatalogFault) (rest : List ℕ) (es : List EntryValue) (all : Result (List EntryValue) CatalogFault) → v < count
     → all ≡ after es (entries_in (count - v) v (12 + from) (drop from rest)) → Tells f (entry_in v (12 + from) (drop from rest)) → Tells f all
 entries-fault count v from f rest es all h e t =
-    let n : count - v ≡ suc (count - (v + 1)) = omega arith in
-    tells-on f (entry_in v (12 + from) (drop from rest)) all
-    (λ is. e ∙ ap (λ (m : ℕ). after es (entries_in m v (12 + from) (drop from rest))) n ∙ entries-first-fault (count - (v + 1)) v (12 + from) f (drop from rest) es is) t
+    let n : count - v ≡ suc (count - (v + 1)) = omega arith in grind (arith, common_steps, tells-on, entries-first-fault)
 
 end-none : (at from : ℕ) (rest : List ℕ) → length rest ≤ from → end_in at (drop from rest) ≡ Ok []
 end-none at from rest h = ap (end_in at) (drop_all from rest h)

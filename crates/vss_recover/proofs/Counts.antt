@@ -1,11 +1,11 @@
 -- How many slots of the overlay are used: as many as there are pairs of a standing image and a block of it that a recovery write names.
-use Rattle.std.proofs.Common.{◌≡◌, ◌≢◌, ◌<◌, ℕ, List, [], ◌∷◌, ◌++◌, length, map, refl, ap, sym, subst, ◌∙◌, arith, Bool, true, false, not, ◌||◌, Option, Some, inl, inr}
+use Rattle.std.proofs.Common.{◌≡◌, ◌≢◌, ◌<◌, ℕ, List, [], ◌∷◌, ◌++◌, length, map, refl, ap, sym, subst, ◌∙◌, arith, Bool, true, not, ◌||◌, Option, Some, inl, inr}
 use Rattle.std.specs.Prelude.{filter, slice_get, ◌==◌, nat_lt}
 use Rattle.std.specs.List.{range_with_len}
 use Rattle.std.proofs.lemmas.List.{length-map, length-append}
 use Rattle.std.proofs.lemmas.List.Sums.{length-filter}
 use Rattle.std.proofs.lemmas.List.Sorted.{length_permutation}
-use Rattle.std.proofs.lemmas.Bool.{lt-ltb, ltb-true, and_parts, and_from, not_from_false}
+use Rattle.std.proofs.lemmas.Bool.{lt-ltb, ltb-true, and_parts, and_from, not_from_false, not-true}
 use Rattle.std.proofs.lemmas.Grind.{common_steps}
 use Rattle.write_history.specs.History.{Image, names, blocks_named, sets_of, AreLater, AreInTime}
 use Rattle.diff_area.specs.Format.{free, is_free, used_in, AreRecords}
@@ -24,9 +24,6 @@ use Rattle.vss_recover.specs.OverlayCalls.{is_block_of, count_in}
 use Rattle.vss_recover.specs.RecoverValue.{IsOverlay}
 
 -- ## tests
-
-not_false : (b : Bool) → not b ≡ true → b ≡ false
-not_false b e = grind arith
 
 -- ## the records of an overlay
 
@@ -120,12 +117,12 @@ pub counted_all : (slots : Option (List (List ℕ))) (records : List Record) (n 
 counted_all slots records n rs sets is are apart above stand =
     sym (length-filter (λ r. not (is_free r)) records)
     ∙ sym (length_permutation (filter (λ r. not (is_free r)) records) (all_pairs n rs sets) (permuted (filter (λ r. not (is_free r)) records) (all_pairs n rs sets)
-    (apart-filter (λ r. not (is_free r)) records (λ i j r e f g. are.once i j r f g (used_record r (not_false (is_free r) e))))
+    (apart-filter (λ r. not (is_free r)) records (λ i j r e f g. are.once i j r f g (used_record r (not-true (is_free r) e))))
     (apart_all n rs sets apart)
     (λ r m.
     let of = from-filter (λ r. not (is_free r)) r records m in
     let place = place_of records r of.0 in
-    let one = of_one n records place.0 r are place.1 (used_record r (not_false (is_free r) of.1)) in
+    let one = of_one n records place.0 r are place.1 (used_record r (not-true (is_free r) of.1)) in
     let named = is.named place.0 r.set r.block one.0 (place.1 ∙ ap (λ (x : Record). Some x) one.2) in
     let P : Record → Type 0 = λ x. Has x (all_pairs n rs sets) in
     subst P (sym one.2) (has_all n rs sets r.set r.block (stand r.set r.block named) one.1 named))

@@ -1,6 +1,6 @@
 -- A volume with recovery writes in its parts: what its calls come to, from the calls that they are made of.
 use Rattle.std.proofs.Common.{ℕ, List, Option, arith, ◌≡◌, ◌<◌, ◌≤◌, ◌∙◌, ◌++◌, length-append, zero, suc, [], ◌∷◌, ◌-◌, ◌+◌, Bool, true, false, Some, ap, sym}
-use Rattle.std.proofs.Common.{length, slice_index_or, filter, take, subst}
+use Rattle.std.proofs.Common.{length, slice_index_or, filter, take, subst, rules}
 use Rattle.std.proofs.lemmas.Grind.{common_steps}
 use Rattle.std.proofs.lemmas.List.{length-take-le}
 use Rattle.std.proofs.lemmas.Option.{get_or_from_slice_get}
@@ -103,9 +103,7 @@ pub recovered_if_ok : {D : Type 0} (ghosts : Ghosts D) (old : RecoverValue D) (o
     → ghosts.size old.overlay.device ≡ blocks_for (length old.overlay.records) → IfSome (ghosts.told old.overlay.device) (AreBlocks (ghosts.size old.overlay.device)) → old.window ≡ Some r.set
     → r.write.block < blocks_of old.volume → owner_of old.claims r.write.block ≡ Some r.writer
     → IsPut ghosts old.overlay overlay r.set r.write.block bytes result → OnOk result (IsStep ghosts.told old (value_of old.volume overlay old.window old.claims old.final) (Recovered r))
-recovered_if_ok ghosts old overlay r bytes (Ok done) same fits are sized whole window low owner is =
-    grind (arith, common_steps, recovered_step ghosts old overlay r fits are sized whole window low owner)
-recovered_if_ok ghosts old overlay r bytes (Err fault) same fits are sized whole window low owner is = tt
+recovered_if_ok ghosts old overlay r bytes result same fits are sized whole window low owner is = grind (arith, common_steps, recovered_step)
 
 -- ## a revert that a device broke off
 
@@ -137,9 +135,7 @@ module _ {D : Type 0} (ghosts : Ghosts D) where
   -- the table was written
   pub slots_all : (old new : AreaValue D) → KeepsTable ghosts.size ghosts.lending old new → ghosts.count old.device ≤ ghosts.count new.device
       → ghosts.told new.device ≡ option_map (with_first (table_blocks old.volumes old.records)) (ghosts.told old.device) → KeepsSlots ghosts old new
-  slots_all old new table later e =
-      let same = length-table old.volumes old.records in
-      slots_first old new (table_blocks old.volumes old.records) table later (omega arith) e
+  slots_all old new table later e = search (rules, length-table, slots_first)
 
   -- a part of it was
   pub slots_part : (old new : AreaValue D) → KeepsTable ghosts.size ghosts.lending old new → ghosts.count old.device ≤ ghosts.count new.device

@@ -194,11 +194,10 @@ keep_overlay slots records n sets rs is = grind (arith, kept_row, recovered-kept
 -- ## there is room
 
 pub room_if_chosen : (records : List Record) (set b slot : ℕ) → IsChosen records (record_of 0 set b) slot → lacks_room records set b ≡ false
-room_if_chosen records set b slot was = elim was [
-  | inl own ↦ ap (λ (t : Bool). not t && is_full records) (has_found records slot (record_of 0 set b) own)
-  | inr none ↦ (let some = some_free (map is_free records) slot (slice_get_map is_free records slot free none.0) in
-      and_right (not (has_record records (record_of 0 set b))) (is_full records) (not_full_if records (free_count (map is_free records)) refl (λ e. absurd (omega arith))))
-]
+room_if_chosen records set b slot was =
+    let fact = and_right (not (has_record records (record_of 0 set b))) (is_full records) in
+    let fact1 = not_full_if records (free_count (map is_free records)) refl in
+    grind (arith, common_steps, has_found records slot (record_of 0 set b), some_free (map is_free records) slot, slice_get_map is_free records slot free)
 
 pub room_if_free : (records : List Record) (set b slot : ℕ) → slice_get records slot ≡ Some free → has_record records (record_of 0 set b) ≡ false → lacks_room records set b ≡ false
 room_if_free records set b slot empty none = room_if_chosen records set b slot (inr (empty, none))

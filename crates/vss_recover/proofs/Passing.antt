@@ -1,6 +1,6 @@
 -- The records of a volume, brought in step with its map's rows entry by entry, and counted by the entries.
 use Rattle.std.proofs.Common.{ℕ, zero, suc, ◌≡◌, ◌≢◌, ◌<◌, ◌≤◌, ◌+◌, Bool, true, false, ◌&&◌, List, [], ◌∷◌, length, map, take, get_or, Option, Some, slice_get}
-use Rattle.std.proofs.Common.{slice_set, refl, sym, ap, ◌∙◌, subst, arith, inl, inr, None}
+use Rattle.std.proofs.Common.{slice_set, refl, sym, ap, ◌∙◌, subst, arith, inl, inr, None, rules}
 use Rattle.std.proofs.lemmas.Bool.{cases_eq}
 use Rattle.std.proofs.lemmas.Grind.{common_steps}
 use Rattle.std.proofs.lemmas.List.{length-map, length-set, take_all, get_or_default}
@@ -172,7 +172,7 @@ module _ (v : ℕ) (rule : Copied → Option Copied) (entries : List Entry) (rec
 
 -- the entry at a place
 pub entry_at : (entries : List Entry) (i : ℕ) (d : Entry) → i < length entries → slice_get entries i ≡ Some (get_or entries i d)
-entry_at entries i d inside = slice_get_read entries (length entries) i (get_or entries i d) refl inside (sym (get_or_default entries i (get_or entries i d) d inside))
+entry_at entries i d inside = search (rules, slice_get_read, get_or_default)
 
 -- the record of an entry was set
 pub step_set : {D : Type 0} (first old new : AreaValue D) (v : ℕ) (rule : Copied → Option Copied) (entries : List Entry) (i : ℕ) (e : Entry) (row : Record) → slice_get entries i ≡ Some e
@@ -190,7 +190,6 @@ pub slot_within : {D : Type 0} (first old : AreaValue D) (v : ℕ) (rule : Copie
     → slice_get entries i ≡ Some e → old ≡ with_records (passed v rule (take i entries) first.records) first
     → e.slot < length old.records
 slot_within first old v rule entries i e index at was =
-    let long = length-passed v rule (take i entries) first.records in
     let inside = slice_get_within first.records e.slot (record_of v e.set e.block) (record_at v rule entries first.records index i e at) in
     grind (arith, common_steps, length-passed, slice_get_within, record_at)
 

@@ -3,7 +3,7 @@ use Rattle.std.proofs.Common.{◌≡◌, ℕ, zero, suc, List, [], ◌∷◌, �
 use Rattle.std.proofs.lemmas.Bool.{or_left, or_right, lt-ltb}
 use Rattle.std.proofs.lemmas.Grind.{common_steps}
 use Rattle.std.proofs.lemmas.List.{map-append}
-use Rattle.std.proofs.lemmas.List.Elements.{All-head, All-tail, All-cons, All-filter, filter_passes}
+use Rattle.std.proofs.lemmas.List.Elements.{All-head, All-tail, All-filter, filter_passes, All-nil}
 use Rattle.std.proofs.lemmas.List.Folds.{list_any-append}
 use Rattle.std.specs.Prelude.{◌==◌, ◌||◌, filter, slice_get, if◌then◌else◌, length, ◌-◌}
 use Rattle.write_history.specs.History.{History, Image, sets_of, after_set, Write, written, cut, dropped, reverted, reverted_in_part}
@@ -53,18 +53,14 @@ pub among_filter : (p : Image → Bool) (images : List Image) (s : ℕ) → is_a
 among_filter p [] s e = e
 among_filter p (i ∷ images) s e = grind (arith, common_steps, or_rest, among_tail, among_filter p images s)
 
-pub all_none : {X : Type 0} (P : X → Type 0) → All P []
-all_none P = λ k d l. absurd (omega arith)
-
 all_in : (ys xs : List ℕ) → ((s : ℕ) → is_among s xs ≡ true → is_among s ys ≡ true) → All (λ s. is_among s ys ≡ true) xs
-all_in ys xs f = grind (arith, common_steps, all_none, among_head, among_tail)
+all_in ys xs f = grind (arith, common_steps, All-nil, among_head, among_tail)
 
 all_map : {X : Type 0} (P Q : X → Type 0) (xs : List X) → ((x : X) → P x → Q x) → All P xs → All Q xs
 all_map x0 x1 xs f all = grind arith
 
 all_push : {X : Type 0} (P : X → Type 0) (xs : List X) (y : X) → All P xs → P y → All P (xs ++ y ∷ [])
-all_push P [] y all h = All-cons P y [] h (all_none P)
-all_push P (x ∷ xs) y all h = All-cons P x (xs ++ y ∷ []) (All-head P x xs all) (all_push P xs y (All-tail P x xs all) h)
+all_push x0 xs y all h = grind (arith, common_steps, All-nil)
 
 -- ## the window
 
@@ -87,11 +83,7 @@ pub of_opened : (sets : List ℕ) (set : ℕ) (claims : List _) (h : Recovering)
 of_opened sets set claims h among is = grind arith
 
 pub of_recovered : (sets : List ℕ) (r : Recovery) (h : Recovering) → h.window ≡ Some r.set → IsOfImages sets h → IsOfImages sets (recovered_by r h)
-of_recovered sets r h open_is is = record {
-  recoveries = all_push (λ (q : Recovery). is_among q.set sets ≡ true) h.recoveries r is.recoveries (is.window r.set open_is);
-  window = is.window;
-  final = is.final;
-}
+of_recovered sets r h open_is is = grind (arith, common_steps, all_push)
 
 pub of_closed : (set : ℕ) (h : Recovering) → IsOfImages (sets_of h.volume.images) h → IsOfImages (sets_of h.volume.images) (closed set h)
 of_closed set h is = record {
@@ -156,17 +148,9 @@ pub beside_stands : {D : Type 0} (told : D → Option (List (List ℕ))) (old ne
     → IsOfImages (sets_of v.images) h → new.overlay.records ≡ old.overlay.records → told new.overlay.device ≡ told old.overlay.device → new.window ≡ old.window → new.claims ≡ old.claims
     → new.final ≡ old.final
     → StandsFor told new (record { volume = v; recoveries = h.recoveries; window = h.window; claims = h.claims; final = h.final })
-beside_stands told old new v h stood stands blocks of records slots window claims final = record {
-  volume = stands;
-  overlay = subst (λ (rows : List Record). IsOverlay (told new.overlay.device) rows (blocks_of new.volume) h.recoveries) (sym records)
-      (subst (λ (o : Option (List (List ℕ))). IsOverlay o old.overlay.records (blocks_of new.volume) h.recoveries) (sym slots)
-      (same_overlay (told old.overlay.device) old.overlay.records (blocks_of new.volume) (blocks_of old.volume) h.recoveries blocks stood.overlay));
-  of_images = (let is : IsOfImages (image_sets new.volume) h = subst (λ (sets : List ℕ). IsOfImages sets h) (sym (sets_are told new.volume v stands)) of in
-      record { recoveries = is.recoveries; window = is.window; final = is.final });
-  window = window ∙ stood.window;
-  claims = claims ∙ stood.claims;
-  final = final ∙ stood.final;
-}
+beside_stands told old new v h stood stands blocks of records slots window claims final =
+    let fact = same_overlay (told old.overlay.device) old.overlay.records (blocks_of new.volume) (blocks_of old.volume) h.recoveries blocks stood.overlay in
+    grind (arith, common_steps, sets_are told new.volume v stands)
 
 -- nothing changed but counts of devices
 pub quiet_stands : {D : Type 0} (told : D → Option (List (List ℕ))) (old new : RecoverValue D) (h : Recovering) → StandsFor told old h → StandsForOne told new.volume h.volume

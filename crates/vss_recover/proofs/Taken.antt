@@ -1,7 +1,7 @@
 -- The calls as steps: what a volume stands for after each of them.
 use Rattle.std.proofs.Common.{◌≡◌, ◌<◌, ◌-◌, ℕ, zero, suc, List, [], ◌∷◌, ◌++◌, length, replicate, refl, ap, sym, subst, ◌∙◌, arith, true, false, not, ◌&&◌, Option, Some, None, All}
 use Rattle.std.specs.Prelude.{slice_get, slice_set, IfSome, is_some, ◌==◌, Ok}
-use Rattle.std.proofs.lemmas.List.Elements.{All-head, All-tail}
+use Rattle.std.proofs.lemmas.List.Elements.{All-head, All-tail, All-nil}
 use Rattle.std.proofs.lemmas.Option.{slice_get_within}
 use Rattle.std.proofs.lemmas.Grind.{common_steps}
 use Rattle.volume_device.specs.InMemory.{AreBlocks}
@@ -24,7 +24,7 @@ use Rattle.vss_recover.specs.RecoverValue.{RecoverValue, StandsFor, IsOverlay}
 use Rattle.vss_recover.specs.Steps.Step.{Wrote, Evicted, Cut, Dropped, Reverted, RevertedInPart, Opened, Recovered, Closed}
 use Rattle.vss_recover.specs.Calls.{IsStep, IsSettled, IsBeside, IsSettledUpTo, IsShown}
 use Rattle.vss_recover.proofs.Overlays.{last_if_named, none_recovered, set_one, put_overlay}
-use Rattle.vss_recover.proofs.Standing.{among_at, of_more, of_opened, of_recovered, of_closed, all_none, one_of_it, sets_are, above_zero, beside_stands}
+use Rattle.vss_recover.proofs.Standing.{among_at, of_more, of_opened, of_recovered, of_closed, one_of_it, sets_are, above_zero, beside_stands}
 use Rattle.vss_recover.proofs.Standing.{settled_stands, settled_up_to_stands}
 use Rattle.cow_volume.proofs.Members.{AreApart as AreApartList}
 use Rattle.vss_recover.proofs.Counts.{counted_in, counted_all, apart_sets, among_has, has_slot}
@@ -44,7 +44,7 @@ none_free k slot set b records are l e = grind (arith, free_row)
 pub new_stands : {D : Type 0} (told : D → Option (List (List ℕ))) (volume : GroupValue D) (overlay : AreaValue D) (h : History) → overlay.records ≡ replicate (length overlay.records) free
     → StandsForOne told volume h
     → StandsFor told (record { volume = volume; overlay = overlay; window = None; claims = []; final = [] }) (unrecovered h)
-new_stands told volume overlay h are stands = grind (arith, none_free, all_none)
+new_stands told volume overlay h are stands = grind (arith, none_free, All-nil)
 
 -- ## counts
 
@@ -178,19 +178,9 @@ module _ {D : Type 0} (ghosts : Ghosts D) (old new : RecoverValue D) (set : ℕ)
 pub opened_step : {D : Type 0} (told : D → Option (List (List ℕ))) (old : RecoverValue D) (set : ℕ) (claims : List Claim) → IsNewest (image_sets old.volume) set → old.window ≡ None
     → is_among set old.final ≡ false → AreWithin (blocks_of old.volume) claims → AreApart claims
     → IsStep told old (record { volume = old.volume; overlay = old.overlay; window = Some set; claims = claims; final = old.final }) (Opened set claims)
-opened_step told old set claims newest none open_still within apart = λ h stood. (
-    let sets = sets_are told old.volume h.volume stood.volume in (
-      (subst (λ (s : List ℕ). IsNewest s set) sets newest, sym stood.window ∙ none, ap (is_among set) (sym stood.final) ∙ open_still, within, apart),
-      record {
-        volume = stood.volume;
-        overlay = stood.overlay;
-        of_images = (let of = of_opened (image_sets old.volume) set claims h (among_at (image_sets old.volume) (length (image_sets old.volume) - 1) set newest) stood.of_images in
-            record { recoveries = of.recoveries; window = of.window; final = of.final });
-        window = refl;
-        claims = refl;
-        final = stood.final;
-      },
-    ))
+opened_step told old set claims newest none open_still within apart =
+    let fact = among_at (image_sets old.volume) (length (image_sets old.volume) - 1) set newest in
+    grind (arith, common_steps, sets_are told old.volume, of_opened (image_sets old.volume) set claims)
 
 pub closed_step : {D : Type 0} (told : D → Option (List (List ℕ))) (old : RecoverValue D) (set : ℕ) → old.window ≡ Some set
     → IsStep told old (record { volume = old.volume; overlay = old.overlay; window = None; claims = old.claims; final = with_final set (image_sets old.volume) old.final }) (Closed set)

@@ -1,6 +1,6 @@
 -- The overlay that is taken up again, record after record, is known by the copies in its slots.
 use Rattle.std.proofs.Common.{◌≡◌, ◌<◌, ◌≤◌, ◌+◌, ℕ, zero, suc, List, [], ◌∷◌, length, map, refl, ap, sym, subst, ◌∙◌, arith, Bool, true, false, Option, Some}
-use Rattle.std.proofs.Common.{None, inl, inr, All, IsPermutation}
+use Rattle.std.proofs.Common.{None, inl, inr, All, IsPermutation, rules}
 use Rattle.std.proofs.lemmas.Bool.{false≢true, lt-ltb}
 use Rattle.std.proofs.lemmas.Bool.Decides.{nat_tests}
 use Rattle.std.proofs.lemmas.Grind.{common_steps}
@@ -105,10 +105,7 @@ free_next records k r entries at e was = record { index = index_same entries rec
 used_next : (volumes : List ℕ) (records : List Record) (k : ℕ) (r : Record) (entries later : List Entry) → length volumes ≡ 1 → AreRecords volumes records → slice_get records k ≡ Some r
     → is_free r ≡ false
     → AreNoted records k entries → IsNotedIn entries later k r → AreNoted records (k + 1) later
-used_next volumes records k r entries later one are at e was noted = record {
-  index = index_noted volumes records one are k r at e entries later was.index noted;
-  few = one_longer entries later k r was.few noted;
-}
+used_next volumes records k r entries later one are at e was noted = search (rules, index_noted, one_longer)
 
 -- one record more
 pub noted_next : (volumes : List ℕ) (records : List Record) (k : ℕ) (r : Record) (entries later : List Entry) → length volumes ≡ 1 → AreRecords volumes records → slice_get records k ≡ Some r
@@ -242,15 +239,8 @@ pub never_refused : (slots : Option (List (List ℕ))) (sets volumes : List ℕ)
 never_refused slots sets volumes records n h OutOfMemory one are over of refused = refl
 never_refused slots sets volumes records n h (NoImage slot set) one are over of refused =
     let r = refused.row in
-    elim (each_used volumes records one are slot r refused.row_is) [
-      | inl empty ↦ (let none : is_free r ≡ true = ap is_free empty in absurd cc)
-      | inr both ↦ (
-          let is : r ≡ record_of 0 r.set r.block = same_record r (record_of 0 r.set r.block) refl refl both.1 in
-          let named = over.named slot r.set r.block both.0 (refused.row_is ∙ ap (λ (x : Record). Some x) is) in
-          let among = recovered_among sets r.set r.block h.recoveries of.recoveries named in
-          let without : is_among r.set sets ≡ false = ap (λ n. is_among n sets) refused.set_is
-          ∙ sym (ap (λ v. is_among set (sets_in (slice_get (sets ∷ []) v))) both.1) ∙ refused.without in absurd cc)
-    ]
+    let fact = recovered_among sets r.set r.block h.recoveries of.recoveries in
+    grind (arith, common_steps, each_used volumes records one are slot r refused.row_is, same_record r (record_of 0 r.set r.block) refl refl)
 
 -- ## An overlay is known by the copies in its slots: an area whose slots have the same ones, in whatever slots, is an overlay of the same
 -- recovery writes.

@@ -11,6 +11,7 @@ use Rattle.std.proofs.lemmas.List.{map-set, length-map, length-set}
 use Rattle.std.proofs.lemmas.List.Elements.{All-head, All-tail}
 use Rattle.std.proofs.lemmas.List.Sums.{sum_by-cons}
 use Rattle.std.proofs.lemmas.Option.{cond_some}
+use Rattle.std.proofs.lemmas.Grind.{common_steps}
 use Rattle.slot_pool.specs.Slots.{IsTaken}
 use Rattle.diff_area.specs.AreaValue.{AreaValue}
 use Rattle.diff_area.specs.Format.{free, is_free, AreRecords}
@@ -185,17 +186,10 @@ pub overlay_kept : (volumes : List ℕ) (records : List Record) (entries later :
     → AreRecords volumes records → later.items ≡ filter (λ (e : Entry). is_among e.set sets) entries.items
     → vec_capacity later ≡ vec_capacity entries → new_pool ≡ map is_free (kept_records sets records) → KeepsOverlay volumes (kept_records sets records) later new_pool
 overlay_kept volumes records entries later pool new_pool sets keeps are items cap pool_is =
-    let now : rows (kept_records sets records) ≡ renewed (among sets) (rows records) =
-    ap (λ (rs : List Record). rows rs) (sym (followed_kept volumes records sets keeps.one are))
-    ∙ own_map 0 (among sets) records (λ c d gives above. (let e : d.set ≡ c.set = ap (λ (x : Copied). x.set) (among_gives sets c d gives) in omega arith)) in
-    record {
-      one = keeps.one;
-      index = subst (λ (es : List Entry). IsIndex es (rows (kept_records sets records))) (sym (items ∙ filters sets (rows records) entries.items keeps.index.each))
-          (subst (IsIndex (filter_map (entry_now (renewed (among sets) (rows records))) entries.items)) (sym now)
-          (IsIndex-renewed (among sets) entries.items (rows records) keeps.index (keeps_order sets (rows records) entries.items keeps.index)));
-      room = let r = keeps.room in let long = length-map records (kept_record sets) in omega arith;
-      pool_is = pool_is;
-    }
+    let fact = IsIndex-renewed (among sets) entries.items (rows records) keeps.index (keeps_order sets (rows records) entries.items keeps.index) in
+    let fact1 = filters sets (rows records) entries.items keeps.index.each in
+    let fact2 = keeps_order sets (rows records) entries.items keeps.index in
+    grind (arith, common_steps, followed_kept volumes records sets keeps.one are, own_map 0 (among sets) records, among_gives sets)
 
 -- the slot of an entry that was not passed is taken
 pub taken_there : {D : Type 0} (first old : AreaValue D) (pool : List Bool) (rule : Copied → Option Copied) (entries : List Entry) (i : ℕ) (e : Entry) → IsIndex entries (rows first.records)

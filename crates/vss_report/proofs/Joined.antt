@@ -4,7 +4,7 @@ use Rattle.std.proofs.Common.{None, zero, suc}
 use Rattle.std.proofs.lemmas.Bool.{not_from_false}
 use Rattle.std.proofs.lemmas.Bool.Decides.{nat_tests}
 use Rattle.std.proofs.lemmas.Grind.{common_steps}
-use Rattle.std.proofs.lemmas.List.{drop_more, drop_all, take_more, length-drop, length-take-le, get_or-drop}
+use Rattle.std.proofs.lemmas.List.{drop_more, drop_all, take_more, length-drop, length-take-le}
 use Rattle.std.proofs.lemmas.List.Folds.{list_all-append}
 use Rattle.std.specs.Int.{byte_at, bytes_high_first, to_be_bytes, w32}
 use Rattle.std.specs.List.{list_all}
@@ -59,10 +59,8 @@ length-range text at end h within = length-take-le (end - at) (drop at text) (rw
 
 range_one_more : (text : List ℕ) (at end : ℕ) → at ≤ end → end < length text → slice_range text at (end + 1) ≡ slice_range text at end ++ get_or text end 0 ∷ []
 range_one_more text at end h inside =
-    let one : end + 1 - at ≡ end - at + 1 = omega arith in
     let rest : end - at < length (drop at text) = rw (length-drop at text) (omega arith) in
-    let same : at + (end - at) ≡ end = omega arith in
-    rw (one, take_more (drop at text) (end - at) 0 rest, get_or-drop at text (end - at) 0, same) refl
+    grind (arith, common_steps, take_more (drop at text) (end - at) 0 rest)
 
 -- a byte that parts nothing is of the piece at hand
 pub passes : (mark : ℕ) (text : List ℕ) (at end : ℕ) (whole : List (List ℕ)) → at ≤ end → end < length text → (get_or text end 0 == mark) ≡ false

@@ -1,6 +1,6 @@
 -- The words of a report, each read as what it is, the texts of a line, and a scenario whose names are by the grammar.
 use Rattle.std.proofs.Common.{◌≡◌, ◌∙◌, ℕ, zero, suc, ◌+◌, ◌-◌, ◌*◌, ◌/◌, ◌%◌, ◌^◌, ◌<◌, Bool, true, false, List, [], ◌∷◌, ◌++◌, length, get_or, Some, None}
-use Rattle.std.proofs.Common.{refl, ap, sym, arith, subst, map, Option}
+use Rattle.std.proofs.Common.{refl, ap, sym, arith, subst, map, Option, rules}
 use Rattle.std.proofs.lemmas.Bool.Decides.{nat_tests}
 use Rattle.std.proofs.lemmas.Fmt.{decimal_by_steps, decimal_digit, decimal_nonempty, first_decimal}
 use Rattle.std.proofs.lemmas.Grind.{common_steps}
@@ -43,8 +43,7 @@ pub record IsWord (word : List ℕ) : Type 0 where
 -- ## the same bytes
 
 pub same_bytes : (word : List ℕ) → bytes_eq word word ≡ true
-same_bytes [] = refl
-same_bytes (byte ∷ word) = grind (arith, common_steps, both, same_bytes word)
+same_bytes word = search (rules, both)
 
 -- ## numbers
 
@@ -83,15 +82,11 @@ digit_no_newline : (byte : ℕ) → is_digit byte ≡ true → (byte == 10) ≡ 
 digit_no_newline byte h = grind (arith, nat_tests)
 
 pub number_word : (n : ℕ) → n < 2 ^ 64 → IsWord (decimal n)
-number_word n small = record {
-  space = free_where is_digit 32 digit_no_space (decimal n) (are_digits n small);
-  line = free_where is_digit 10 digit_no_newline (decimal n) (are_digits n small);
-}
+number_word n small = search (rules, free_where, digit_no_space, are_digits, digit_no_newline)
 
 -- a number is no word that begins with another byte
 pub no_number : (c : ℕ) (cs digits : List ℕ) → is_digit c ≡ false → list_all is_digit digits ≡ true → bytes_eq digits (c ∷ cs) ≡ false
-no_number c cs [] other h = refl
-no_number c cs (d ∷ digits) other h = grind (arith, common_steps, first_of_both)
+no_number c cs digits other h = search (rules, first_of_both)
 
 -- ## digits of bytes
 
@@ -102,17 +97,8 @@ all_hex (suc n) = is_hex_digit (slice_index lower_digits n) && all_hex n
 
 hex_below : (n d : ℕ) → all_hex n ≡ true → d < n → is_hex_digit (slice_index lower_digits d) ≡ true
 hex_below zero d h l = absurd (omega arith)
-hex_below (suc n) d h l = by_last (d == n) refl (λ less. hex_below n d (second_of_both (is_hex_digit (slice_index lower_digits n)) (all_hex n) h) less)
-  where
-    is_same : (a b : ℕ) → (a == b) ≡ true → a ≡ b
-    is_same a b e = grind (arith, nat_tests)
-
-    is_less : (a b : ℕ) → (a == b) ≡ false → a < suc b → a < b
-    is_less a b e l = grind (arith, nat_tests)
-
-    by_last : (t : Bool) → (d == n) ≡ t → (d < n → is_hex_digit (slice_index lower_digits d) ≡ true) → is_hex_digit (slice_index lower_digits d) ≡ true
-    by_last true e below = ap (λ k. is_hex_digit (slice_index lower_digits k)) (is_same d n e) ∙ first_of_both (is_hex_digit (slice_index lower_digits n)) (all_hex n) h
-    by_last false e below = below (is_less d n e l)
+hex_below (suc n) d h l =
+    grind (arith, common_steps, second_of_both, first_of_both, hex_below n d (second_of_both (is_hex_digit (slice_index lower_digits n)) (all_hex n) h))
 
 hex_at : (d : ℕ) → d < 16 → is_hex_digit (slice_index lower_digits d) ≡ true
 hex_at d l = hex_below 16 d refl l
@@ -135,10 +121,7 @@ hex_no_newline : (byte : ℕ) → is_hex_digit byte ≡ true → (byte == 10) �
 hex_no_newline byte h = grind (arith, nat_tests)
 
 pub hex_word : (bytes : List ℕ) → IsBytes bytes → IsWord (encode_lower bytes)
-hex_word bytes h = record {
-  space = free_where is_hex_digit 32 hex_no_space (encode_lower bytes) (are_hex_digits bytes h);
-  line = free_where is_hex_digit 10 hex_no_newline (encode_lower bytes) (are_hex_digits bytes h);
-}
+hex_word bytes h = search (rules, free_where, hex_no_space, are_hex_digits, hex_no_newline)
 
 -- ## names of a scenario
 
@@ -156,10 +139,7 @@ name_no_equals : (byte : ℕ) → is_name_byte byte ≡ true → (byte == 61) �
 name_no_equals byte h = grind (arith, nat_tests)
 
 pub name_word : (name : List ℕ) → is_name name ≡ true → IsWord name
-name_word name h = record {
-  space = free_where is_name_byte 32 name_no_space name (are_name_bytes name h);
-  line = free_where is_name_byte 10 name_no_newline name (are_name_bytes name h);
-}
+name_word name h = search (rules, free_where, name_no_space, are_name_bytes, name_no_newline)
 
 pub name_free : (name : List ℕ) → is_name name ≡ true → is_free 61 name ≡ true
 name_free name h = free_where is_name_byte 61 name_no_equals name (are_name_bytes name h)

@@ -1,13 +1,14 @@
 -- Each line of a report is read as what it tells: a move, an effect, the end of the moves.
-use Rattle.std.proofs.Common.{◌≡◌, ◌∙◌, ℕ, zero, suc, ◌+◌, ◌^◌, ◌<◌, ◌≤◌, Bool, true, false, List, [], ◌∷◌, ◌++◌, length, Option, Some, None, refl, ap, sym, subst, find, cond, inl, inr, arith}
-use Rattle.std.specs.Prelude.{◌&&◌, ◌||◌, nat_le, if◌then◌else◌, is_some, codes}
+use Rattle.std.proofs.Common.{◌≡◌, ◌∙◌, ℕ, zero, suc, ◌+◌, ◌^◌, ◌<◌, ◌≤◌, Bool, true, false, List, [], ◌∷◌, ◌++◌, length, Option, Some, None, refl, ap, sym, subst, find, cond, arith}
+use Rattle.std.specs.Prelude.{◌&&◌, nat_le, if◌then◌else◌, is_some, codes}
 use Rattle.std.specs.List.{range_with_len}
 use Rattle.std.specs.Str.{bytes_eq}
 use Rattle.std.specs.Fmt.{decimal}
-use Rattle.std.proofs.lemmas.Bool.{cases_eq}
+use Rattle.std.proofs.lemmas.Bool.{cases_eq, false_from_ne_true, or_right}
 use Rattle.std.proofs.lemmas.List.{append-nil}
 use Rattle.std.proofs.lemmas.Bool.Decides.{nat_tests}
 use Rattle.std.proofs.lemmas.Slice.Eq.{bytes_eq-Decides}
+use Rattle.std.proofs.lemmas.Grind.{common_steps}
 use Rattle.vss_names.specs.declared.order.Order.{Order}
 use Rattle.vss_names.specs.declared.vss_result.VssResult.{VssResult}
 use Rattle.vss_names.specs.declared.set_outcome.SetOutcome.{SetOutcome}
@@ -29,7 +30,7 @@ use Rattle.vss_model.specs.State.{is_running}
 use Rattle.vss_report.specs.declared.line_kind.LineKind.{LineKind}
 use Rattle.vss_report.specs.declared.line_kind.LineKind.TheVariants.{Move, Effect, End, Bad}
 use Rattle.vss_report.specs.Words.{spaced, volume_text, writer_text, lane_text, answer_text, step_text, of_volume, fault_if, outcome_text}
-use Rattle.vss_report.specs.Shapes.{named, writer_named, is_number, is_answer, is_order, is_volume, is_result, marked, lane_move, writer_move, are_two, mark_of_reply, mark_of_step, mark_of_idle, move_in, is_all, then_count, is_next, kind_of_move, kind_of_words, kind_of}
+use Rattle.vss_report.specs.Shapes.{named, writer_named, is_number, is_answer, is_order, is_volume, is_result, writer_move, are_two, mark_of_reply, mark_of_step, mark_of_idle, move_in, is_all, then_count, is_next, kind_of_move, kind_of_words, kind_of}
 use Rattle.vss_report.specs.Legible.{IsShort, AreApart, AreNames, IsLegible, IsVolumeStep, IsStep, IsLegibleImage}
 use Rattle.vss_report.proofs.Joined.{is_free, both}
 use Rattle.vss_report.proofs.LegibleWords.{IsWord, same_bytes, are_digits, no_number, is_number_back, name_word, result_word, order_word, is_result_back}
@@ -39,9 +40,6 @@ use Rattle.vss_report.proofs.LegibleWords.{is_order_back, is_error_back, Says, s
 
 same_text : (a b : List ℕ) → bytes_eq a b ≡ true → a ≡ b
 same_text a b e = (bytes_eq-Decides a b).0 e
-
-is_false : (b : Bool) → (b ≡ true → ⊥) → b ≡ false
-is_false b f = grind arith
 
 first_is : (b : Bool) (x y : Option ℕ) → b ≡ true → cond b x y ≡ x
 first_is b x y e = grind arith
@@ -56,16 +54,8 @@ less x y l f = grind arith
 found_from : (name_of : ℕ → List ℕ) (i a n : ℕ) → a ≤ i → i < a + n → ((j : ℕ) → j < a + n → name_of j ≡ name_of i → j ≡ i)
     → find (λ j. bytes_eq (name_of j) (name_of i)) (range_with_len a n) ≡ Some i
 found_from name_of i a zero h l apart = absurd (omega arith)
-found_from name_of i a (suc n) h l apart = elim (cases_eq a i) [
-  | inl e ↦
-      first_is (bytes_eq (name_of a) (name_of i)) (Some a) (find (λ j. bytes_eq (name_of j) (name_of i)) (range_with_len (a + 1) n))
-      (subst (λ k. bytes_eq (name_of k) (name_of i) ≡ true) (sym e) (same_bytes (name_of i)))
-      ∙ ap Some e
-  | inr differ ↦
-      rest_is (bytes_eq (name_of a) (name_of i)) (Some a) (find (λ j. bytes_eq (name_of j) (name_of i)) (range_with_len (a + 1) n))
-      (is_false (bytes_eq (name_of a) (name_of i)) (λ t. differ (apart a (omega arith) (same_text (name_of a) (name_of i) t))))
-      ∙ found_from name_of i (a + 1) n (less a i h differ) (omega arith) (λ j k e. apart j (omega arith) e)
-]
+found_from name_of i a (suc n) h l apart =
+    grind (arith, common_steps, cases_eq, first_is, same_bytes, rest_is, false_from_ne_true, same_text, less, found_from name_of i (a + 1) n)
 
 pub found : (name_of : ℕ → List ℕ) (count i : ℕ) → AreApart name_of count → i < count → named name_of count (name_of i) ≡ Some i
 found name_of count i apart h = found_from name_of i 0 count (omega arith) (omega arith) (λ j l e. apart j i (omega arith) h e)
@@ -76,12 +66,7 @@ some_head b x y e = grind arith
 -- one of that name is found, where one has it
 some_from : (name_of : ℕ → List ℕ) (i a n : ℕ) → a ≤ i → i < a + n → is_some (find (λ j. bytes_eq (name_of j) (name_of i)) (range_with_len a n)) ≡ true
 some_from name_of i a zero h l = absurd (omega arith)
-some_from name_of i a (suc n) h l = elim (cases_eq a i) [
-  | inl e ↦
-      ap is_some (first_is (bytes_eq (name_of a) (name_of i)) (Some a) (find (λ j. bytes_eq (name_of j) (name_of i)) (range_with_len (a + 1) n))
-      (subst (λ k. bytes_eq (name_of k) (name_of i) ≡ true) (sym e) (same_bytes (name_of i))))
-  | inr differ ↦ some_head (bytes_eq (name_of a) (name_of i)) a (find (λ j. bytes_eq (name_of j) (name_of i)) (range_with_len (a + 1) n)) (some_from name_of i (a + 1) n (less a i h differ) (omega arith))
-]
+some_from name_of i a (suc n) h l = grind (arith, common_steps, cases_eq, first_is, same_bytes, some_head, less, some_from name_of i (a + 1) n)
 
 pub is_volume_back : (s : Plan) (v : ℕ) → v < length s.volumes → is_volume s (volume_text s v) ≡ true
 is_volume_back s v h = some_from (volume_text s) v 0 (length s.volumes) (omega arith) (omega arith)
@@ -90,13 +75,7 @@ is_volume_back s v h = some_from (volume_text s) v 0 (length s.volumes) (omega a
 
 pub lane_back : (s : Plan) (i line : ℕ) (m : Mark) (words : List (List ℕ)) → AreApart (lane_text s) (length s.lanes) → i < length s.lanes → IsShort line → mark_of_reply s words ≡ Some m
     → move_in s (codes "lane" ∷ lane_text s i ∷ decimal line ∷ words) ≡ Some (record { actor = Lane i; mark = m })
-lane_back s i line m words apart h short e =
-    ap (λ o. lane_move s o (decimal line) words) (found (lane_text s) (length s.lanes) i apart h)
-    ∙ ap (λ (b : Bool). if b then marked (Lane i) (mark_of_reply s words) else None) (is_number_back line short)
-    ∙ ap (marked (Lane i)) e
-
-or_right : (a b : Bool) → b ≡ true → (a || b) ≡ true
-or_right a b e = grind arith
+lane_back s i line m words apart h short e = grind (arith, common_steps, found (lane_text s) (length s.lanes) i apart h, is_number_back line short)
 
 is_answer_back : (a : Answer) → is_answer (answer_text a) ≡ true
 is_answer_back a = grind (arith, or_right, is_error_back)

@@ -195,9 +195,7 @@ read_result s why = grind (arith, says_word, result_word, result_alone, clean_if
 
 read_digest : (s : Plan) (digest : List ℕ) → IsDigest digest → IsReadAs s (codes "digest " ++ encode_lower digest) Clean
 unfolding clean_if
-read_digest s digest h =
-    let fact = says_word (encode_lower digest) (hex_word digest h.bytes) in
-    grind (arith, common_steps, hex_word digest h.bytes, is_hex_back 64 32 digest h.long refl h.bytes)
+read_digest s digest h = let fact = says_word (encode_lower digest) (hex_word digest h.bytes) in grind (arith, common_steps, hex_word, is_hex_back)
 
 read_block : (s : Plan) (first digest : List ℕ) → length first ≡ 8 → IsBytes first → IsDigest digest → IsReadAs s (codes "data " ++ encode_lower first ++ spaced (encode_lower digest)) Clean
 unfolding clean_if

@@ -103,8 +103,7 @@ append_nothing xs = grind (arith, common_steps)
 
 IsLines-append : (s : Plan) (tells : List Bool) (r : Run) (ms : List Move) (m : Move) (text own : List ℕ) → IsLines s tells r ms text → IsMoveText s tells (run_from s r ms) m own → IsLines s tells r (ms ++ m ∷ []) (text ++ own)
 IsLines-append s tells r [] m text own e h = (own, [], h, refl, ap (λ xs. xs ++ own) e ∙ sym (append_nothing own))
-IsLines-append s tells r (n ∷ ms) m text own h last =
-    (h.0, h.1 ++ own, h.2, IsLines-append s tells (moved s r n) ms m h.1 own h.3 last, ap (λ xs. xs ++ own) h.4 ∙ append_assoc h.0 h.1 own)
+IsLines-append s tells r (n ∷ ms) m text own h last = grind (arith, common_steps, append_assoc, IsLines-append s tells (moved s r n) ms m h.1 own h.3 last)
 
 pub so_far_none : (s : Plan) (tells : List Bool) → IsReportSoFar s tells [] first_line
 so_far_none s tells = record { moves = []; lines = refl; is = sym (append_nothing first_line) }

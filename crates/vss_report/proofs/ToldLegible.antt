@@ -1,6 +1,6 @@
 -- What a program tells of a legal move is legible: which replies a lane's line may have, and which writers have a code.
 use Rattle.std.proofs.Common.{◌≡◌, ◌∙◌, ℕ, ◌+◌, Bool, List, [], ◌∷◌, map, refl, ap, sym, subst, arith, zero, suc, ◌<◌, ◌≤◌, true, length, filter, Option, Some}
-use Rattle.std.proofs.Common.{false, find}
+use Rattle.std.proofs.Common.{false, find, rules}
 use Rattle.std.proofs.lemmas.Bool.Decides.{nat_tests}
 use Rattle.std.proofs.lemmas.Grind.{common_steps}
 use Rattle.std.proofs.lemmas.List.Elements.{All-nil, All-cons, All-head, All-tail}
@@ -36,15 +36,15 @@ use Rattle.scenario.specs.declared.line.Line.TheVariants.{Ticks, Calls}
 use Rattle.scenario.specs.declared.op.Op.{Op}
 use Rattle.scenario.specs.declared.volume_row.VolumeRow.{VolumeRow}
 use Rattle.vss_model.specs.Acts.{Act, state, restorable, allows_by, line_allows, reply, answer_reply, step_reply, flush_allows, event_allows, enabled}
-use Rattle.vss_model.specs.Acts.{order_of_writer, after}
-use Rattle.vss_model.specs.Effects.{ended_of, ended}
+use Rattle.vss_model.specs.Acts.{order_of_writer}
+use Rattle.vss_model.specs.Effects.{ended_of}
 use Rattle.vss_model.specs.Steps.{runs, is_flush}
 use Rattle.vss_model.specs.Images.{block_reply, count_images, delete_image_reply, image_reply, properties_reply, revert_refusal, revert_reply}
 use Rattle.vss_model.specs.Lines.{line_reply, reply_to}
 use Rattle.vss_model.specs.Outcome.{IsOutcome, HasLists, EndsAs, Fits, mark_of}
 use Rattle.vss_model.specs.Reply.{Reply, Faulted, FaultedAfter, StatusOf, Answered, Stepped, Idled}
 use Rattle.vss_model.specs.Sessions.{judged_reply}
-use Rattle.vss_model.specs.State.{State, row_of_writer, Kept, kept_image, is_kept_set, SetRow, is_running, in_progress}
+use Rattle.vss_model.specs.State.{State, row_of_writer, Kept, kept_image, is_kept_set, SetRow, is_running}
 use Rattle.vss_model.specs.Trail.{run, acts, Run, act_of, next_line, line_event, script_event, event_of, may_move}
 use Rattle.vss_model.specs.declared.event.Event.{Event}
 use Rattle.vss_model.specs.declared.event.Event.TheVariants.{Line, Answer as AnswerEvent}
@@ -262,9 +262,7 @@ record Happens (s : Plan) (tells : List Bool) (st : State) (mark : Mark) (t : To
 actor_legible : (s : Plan) (tells : List Bool) (r : Run) (a : Actor) (mark : Mark) (event : Event) (t : Told) (listed : List ℕ) (rows : List WriterRow) → IsPlan s → event_of s r a ≡ Some event → Happens s tells r.state mark t listed rows event
     → IsActor s a → IsTold s t → IsShortTold t listed → HasRowsIfTold s t rows → All HasItsCode r.state.course.rows → IsReplyTo s tells a mark (reply s r.state (act_of mark event))
 actor_legible s tells r (Lane i) mark event t listed rows plan is h actor in_plan short many coded =
-    let e = line_event_is i (next_line s r i) event is in
-    let at : Happens s tells r.state mark t listed rows (Line i e.op) = subst (Happens s tells r.state mark t listed rows) e.is h in
-    grind (arith, common_steps, lane_legible, of_mark)
+    grind (arith, common_steps, nat_tests, lane_legible, of_mark, line_event_is i (next_line s r i) event is)
 actor_legible s tells r (Writer w) mark event t listed rows plan is h actor in_plan short many coded =
     let e = script_event_is s r.state w (order_of_writer r.state w) event is in
     let at : Happens s tells r.state mark t listed rows (AnswerEvent w e.answer) = subst (Happens s tells r.state mark t listed rows) e.is h in
@@ -293,16 +291,7 @@ told_act_legible : (s : Plan) (tells : List Bool) (r : Run) (a : Actor) (mark : 
     → event_of s r a ≡ Some event → mark ≡ mark_of o.told → IsOutcome tells s r.state event o listed images rows → enabled s r.state event ≡ true → event_allows s r.state event mark ≡ true → All HasItsCode r.state.course.rows
     → IsLegibleAct s tells r.state a (act_of mark event)
 told_act_legible s tells r a mark event o listed images rows plan range short is_event is_mark outcome can may coded =
-    let own : Mark = mark_of o.told in
-    let lawful : event_allows s r.state event own ≡ true = subst (λ k. event_allows s r.state event k ≡ true) is_mark may in
-    let happens : Happens s tells r.state own o.told listed rows event = record { enabled_is = can; allowed = lawful; fits = outcome.fits; lists = outcome.lists } in
-    let act : IsLegibleAct s tells r.state a (act_of own event) = record {
-      reply_is = actor_legible s tells r a own event o.told listed rows plan is_event happens range.actor_is range.told_is short.told_is range.rows_are coded;
-      evicted_are = subst (All (IsLegibleImage s)) outcome.evicts (images_legible s images range.evicted_are short.evicted_are);
-      lost_are = subst (All (λ w. w < length s.writers)) outcome.loses range.lost_are;
-      end_is = end_legible (in_progress r.state) (ended s r.state (act_of own event)) (after s r.state (act_of own event)).sets o.set o.result refl outcome.ends short.set_is;
-    } in
-    subst (λ k. IsLegibleAct s tells r.state a (act_of k event)) (sym is_mark) act
+    search (rules, actor_legible, images_legible, end_legible)
 
 may_act : (s : Plan) (r : Run) (a : Actor) (event : Event) → event_of s r a ≡ Some event → may_move s r a ≡ true → enabled s r.state event ≡ true
 may_act s r a event e h = grind arith

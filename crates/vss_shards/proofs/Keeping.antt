@@ -4,6 +4,7 @@ use Rattle.std.proofs.lemmas.Bool.{ltb-false}
 use Rattle.std.proofs.lemmas.List.{length-map, map-append, length_push, append-nil}
 use Rattle.std.proofs.lemmas.List.Elements.{All-filter, All-push, All-map, All-same, All-head, All-tail}
 use Rattle.std.specs.Prelude.{slice_get, is_some, ◌==◌, nat_lt, if◌then◌else◌, IfSome, All, Err}
+use Rattle.std.proofs.lemmas.Grind.{common_steps}
 use Rattle.write_history.specs.History.{Image, History, point_in, sets_of, after_set, AreInTime, written, cut, content}
 use Rattle.cow_volume.specs.Calls.{sets_in}
 use Rattle.cow_volume.specs.StandsFor.{GroupValue, AreImages}
@@ -12,14 +13,14 @@ use Rattle.cow_volume.proofs.Group.{same_number, number_is, number_is_other}
 use Rattle.cow_volume.proofs.Merging.{above_of}
 use Rattle.vss_shards.specs.Calls.{after_write, images_after, IsRecorded}
 use Rattle.vss_shards.specs.Shards.{DraftValue, GoesOn, IsAfterAll, IsAtPoint, ShardValue, shard_value, history_of, IsShard, IsHeldFor}
-use Rattle.vss_shards.specs.Journals.{write_of, writes_of, most_entries, part_of, count_of, JournalValue, first_off, most_cuts}
+use Rattle.vss_shards.specs.Journals.{write_of, writes_of, most_entries, part_of, JournalValue, first_off, most_cuts}
 use Rattle.vss_shards.specs.OneMoment.{IsFree, IsPart, IsGathered, IsOffIn, DifferFirst, HasImage, IsGivenImage}
 use Rattle.vss_shards.specs.declared.entry.Entry.{Entry}
 use Rattle.vss_shards.specs.declared.gather_fault.GatherFault.{GatherFault}
 use Rattle.vss_shards.specs.declared.gather_fault.GatherFault.TheVariants.{Held, Differs as DiffersAt}
 use Rattle.vss_shards.specs.declared.part.Part.{Part}
 use Rattle.vss_shards.specs.declared.record_fault.RecordFault.{RecordFault}
-use Rattle.vss_shards.specs.declared.record_fault.RecordFault.TheVariants.{Full, Differs, OutOfMemory}
+use Rattle.vss_shards.specs.declared.record_fault.RecordFault.TheVariants.{Differs}
 
 -- ## What a volume that stands for a history shows of its images.
 
@@ -162,35 +163,19 @@ given_image s volume p number held = grind (arith, point_of_newest)
 pub image_is_made : {D : Type 0} → (told : D → Option (List (List ℕ))) (old new : ShardValue D) (draft_old draft_new : DraftValue) (number : ℕ)
     → (is : IsGivenImage told old new draft_old draft_new number) → HasImage new is.given.part
 image_is_made told old new draft_old draft_new number is =
-    let held = held_for told old is.given.part is.shard is.given.held_for in
-    let same : new ≡ shard_value old.number new.volume old.entries (images_after (Some number) is.given.part old.images) old.last None =
-    is.given.shard ∙ ap (λ (r : Option ℕ). shard_value old.number new.volume old.entries (images_after r is.given.part old.images) old.last None) is.recorded in
-    subst (λ (s : ShardValue _). HasImage s is.given.part) (sym same) (given_image old new.volume is.given.part number held)
+    let held = held_for told old is.given.part is.shard is.given.held_for in grind (arith, common_steps, given_image old new.volume is.given.part number held)
 
 -- ## What goes on from call to call.
 
 -- images went, and entries were added
 pub goes_on_written : {D : Type 0} → (told : D → Option (List (List ℕ))) (s : ShardValue D) (volume : GroupValue D) (up_to : ℕ) (more : List Entry) → IsShard told s
     → GoesOn s (after_write s volume up_to (s.entries ++ more))
-goes_on_written told s volume up_to more is = record {
-  number = refl;
-  more = more;
-  entries = refl;
-  settled = λ image settled. record { given = settled.given; free = settled.free };
-  images = λ image point settled at.
-      point_was up_to image point (length (history_of s.entries s.images).writes) s.images (images_stand told s.volume (history_of s.entries s.images) is.stands).1.in_time at;
-}
+goes_on_written told s volume up_to more is = grind (arith, common_steps, point_was up_to, images_stand told s.volume (history_of s.entries s.images) is.stands)
 
 -- images went, and nothing was added
 pub goes_on_gone : {D : Type 0} → (told : D → Option (List (List ℕ))) (s : ShardValue D) (volume : GroupValue D) (up_to : ℕ) → IsShard told s → GoesOn s (after_write s volume up_to s.entries)
-goes_on_gone told s volume up_to is = record {
-  number = refl;
-  more = [];
-  entries = sym (append-nil s.entries);
-  settled = λ image settled. record { given = settled.given; free = settled.free };
-  images = λ image point settled at.
-      point_was up_to image point (length (history_of s.entries s.images).writes) s.images (images_stand told s.volume (history_of s.entries s.images) is.stands).1.in_time at;
-}
+goes_on_gone told s volume up_to is =
+    grind (arith, common_steps, append-nil s.entries, point_was up_to, images_stand told s.volume (history_of s.entries s.images) is.stands)
 
 -- a block was read
 pub goes_on_read : {D : Type 0} → (s : ShardValue D) (volume : GroupValue D) → GoesOn s (shard_value s.number volume s.entries s.images s.last s.held)
@@ -199,11 +184,7 @@ goes_on_read s volume = grind (arith, append-nil)
 -- the last image is not one of another number
 pub point_before : (image point : ℕ) (images : List Image) (i : Image) → i.set ≢ image → point_in image (images ++ i ∷ []) ≡ Some point → point_in image images ≡ Some point
 point_before image point [] i other at = absurd (let e = number_is_other i.set image other in cc)
-point_before image point (j ∷ images) i other at = by_test (j.set == image) (point_before image point images i other) at where
-  by_test : (t : Bool) → (point_in image (images ++ i ∷ []) ≡ Some point → point_in image images ≡ Some point)
-      → (if t then Some j.point else point_in image (images ++ i ∷ [])) ≡ Some point → (if t then Some j.point else point_in image images) ≡ Some point
-  by_test true rest e = e
-  by_test false rest e = rest e
+point_before image point (j ∷ images) i other at = grind (arith, common_steps, point_before image point images i other)
 
 -- the shard is held no longer
 pub goes_on_given : {D : Type 0} → (s : ShardValue D) (volume : GroupValue D) (p : Part) (recorded : Option ℕ) → s.held ≡ Some p
@@ -221,19 +202,11 @@ OnlyDiffers _ = ⊥
 only_differs : (entries : List Entry) (parts : List Part) (fault : RecordFault) → first_off entries parts ≡ Some fault → OnlyDiffers fault
 unfolding OnlyDiffers
 only_differs entries [] fault e = absurd cc
-only_differs entries (p ∷ parts) fault e = by_test (p.count == count_of entries p.volume) (only_differs entries parts fault) e where
-  by_test : (t : Bool) → (first_off entries parts ≡ Some fault → OnlyDiffers fault)
-      → (if t then first_off entries parts else Some (Differs p.volume p.count (count_of entries p.volume))) ≡ Some fault → OnlyDiffers fault
-  by_test true rest f = rest f
-  by_test false rest f = let same : Differs p.volume p.count (count_of entries p.volume) ≡ fault = cc in subst OnlyDiffers same tt
+only_differs entries (p ∷ parts) fault e = grind (arith, common_steps, OnlyDiffers, only_differs entries parts fault)
 
 pub off_is_refused : (j : JournalValue) (d : DraftValue) (fault : RecordFault) → length j.cuts < most_cuts → first_off j.entries d.parts ≡ Some fault → IsRecorded j j d d (Err fault)
 unfolding OnlyDiffers
-off_is_refused j d fault room off = by_fault fault (only_differs j.entries d.parts fault off) off where
-  by_fault : (f : RecordFault) → OnlyDiffers f → first_off j.entries d.parts ≡ Some f → IsRecorded j j d d (Err f)
-  by_fault Full only e = absurd only
-  by_fault (Differs v a b) only e = (room, e, refl, refl)
-  by_fault OutOfMemory only e = absurd only
+off_is_refused j d fault room off = grind (arith, common_steps, only_differs j.entries d.parts fault off)
 
 -- ## gather
 

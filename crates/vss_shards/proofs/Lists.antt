@@ -1,13 +1,14 @@
 -- Places of lists, lists that are compared from the front, and the counts of a journal.
 use Rattle.std.proofs.Common.{◌≡◌, ℕ, zero, suc, ◌<◌, ◌+◌, List, [], ◌∷◌, length, ap, sym, arith, false, Option, Some, None, get_or, refl, ◌≢◌, ◌≤◌, ◌++◌, take}
-use Rattle.std.proofs.Common.{drop, ◌∙◌, Bool, true, cond, subst, Bor, ◌-◌, length-append}
+use Rattle.std.proofs.Common.{drop, ◌∙◌, Bool, true, subst, Bor, ◌-◌, rules}
 use Rattle.std.proofs.Math.Seq.{take-append_seam}
 use Rattle.std.proofs.lemmas.Bool.{ltb-true, ltb-false}
 use Rattle.std.proofs.lemmas.List.{take-append-drop, take_all, length_push, append-nil, take-append-le, take-map}
-use Rattle.std.proofs.lemmas.List.Elements.{filter-append, All-nil, All-cons, All-push, All-weaker}
+use Rattle.std.proofs.lemmas.List.Elements.{filter-append, All-nil, All-push}
 use Rattle.std.proofs.lemmas.Option.{same_Some, slice_get_read, slice_get_past}
 use Rattle.std.specs.Option.{option_eq, option_copied}
-use Rattle.std.specs.Prelude.{slice_get, is_some, slice_index_or, ◌==◌, not, nat_lt, IfSome, slice_set, if◌then◌else◌, All}
+use Rattle.std.specs.Prelude.{slice_get, is_some, slice_index_or, ◌==◌, not, nat_lt, IfSome, slice_set, All}
+use Rattle.std.proofs.lemmas.Grind.{common_steps}
 use Rattle.cow_volume.specs.StandsFor.{GroupValue}
 use Rattle.cow_volume.proofs.Group.{same_number, other_number, number_is, number_is_other, slice_get-set_same, slice_get-set_other, length-slice_set}
 use Rattle.vss_shards.specs.Journals.{part_of, count_of, most_volumes, Cut, JournalValue, IsMoment, IsJournal, AreCounts, first_off, journal_value, most_cuts}
@@ -15,7 +16,6 @@ use Rattle.vss_shards.specs.OneMoment.{DifferFirst, IsImageOf, ShowsMoment}
 use Rattle.vss_shards.specs.Shards.{shards_from, ShardValue}
 use Rattle.vss_shards.specs.declared.entry.Entry.{Entry}
 use Rattle.vss_shards.specs.declared.part.Part.{Part}
-use Rattle.vss_shards.specs.declared.record_fault.RecordFault.TheVariants.{Differs}
 
 -- ## Places of a list, options and results.
 
@@ -47,9 +47,7 @@ at_seam [] x rest = refl
 at_seam (y ∷ xs) x rest = at_seam xs x rest
 
 pub length_taken : {X : Type 0} → (xs : List X) (i : ℕ) → i ≤ length xs → length (take i xs) ≡ i
-length_taken xs zero low = refl
-length_taken [] (suc i) low = absurd (omega arith)
-length_taken (x ∷ xs) (suc i) low = ap suc (length_taken xs i (omega arith))
+length_taken xs i low = search rules
 
 drop_at : {X : Type 0} → (xs : List X) (i : ℕ) (x : X) → slice_get xs i ≡ Some x → drop i xs ≡ x ∷ drop (suc i) xs
 drop_at [] i x at = absurd cc
@@ -77,12 +75,7 @@ pub record Agree (v : ℕ) (listed journal : List Entry) (k at : ℕ) : Type 0 w
 
 -- the journal's part from an entry on
 part_from : (v : ℕ) (journal : List Entry) (k : ℕ) (e : Entry) → slice_get journal k ≡ Some e → e.volume ≡ v → part_of v journal ≡ part_of v (take k journal) ++ e ∷ part_of v (drop (suc k) journal)
-part_from v journal k e here own =
-    ap (λ (es : List Entry). part_of v es) (sym (take-append-drop k journal))
-    ∙ filter-append (λ (x : Entry). x.volume == v) (take k journal) (drop k journal)
-    ∙ ap (λ (es : List Entry). part_of v (take k journal) ++ part_of v es) (drop_at journal k e here)
-    ∙ ap (λ (t : Bool). part_of v (take k journal) ++ cond t (e ∷ part_of v (drop (suc k) journal)) (part_of v (drop (suc k) journal)))
-    (subst (λ (n : ℕ). (e.volume == n) ≡ true) own (number_is e.volume))
+part_from v journal k e here own = grind (arith, common_steps, take-append-drop k journal, drop_at journal k e here, number_is e.volume)
 
 agree_length : (v : ℕ) (listed journal : List Entry) (k at : ℕ) → Agree v listed journal k at → length (part_of v (take k journal)) ≡ at
 agree_length v listed journal k at is = sym (ap length is.same) ∙ length_taken listed at is.within
@@ -93,17 +86,8 @@ pub differ_at : (v : ℕ) (listed journal : List Entry) (k at : ℕ) (e : Entry)
     → DifferFirst listed (part_of v journal) at own (Some e)
 differ_at v listed journal k at e own here same_volume is_own apart is =
     let all = part_from v journal k e here same_volume in
-    let long = agree_length v listed journal k at is in record {
-      before = is.same ∙ sym
-          (ap (λ (es : List Entry). take at es) all
-          ∙ subst (λ (n : ℕ). take n (part_of v (take k journal) ++ e ∷ part_of v (drop (suc k) journal)) ≡ part_of v (take k journal)) long
-          (take-append_seam (part_of v (take k journal)) (e ∷ part_of v (drop (suc k) journal))));
-      own_is = is_own;
-      other_is = ap (λ (es : List Entry). slice_get es at) all
-          ∙ subst (λ (n : ℕ). slice_get (part_of v (take k journal) ++ e ∷ part_of v (drop (suc k) journal)) n ≡ Some e) long
-          (at_seam (part_of v (take k journal)) e (part_of v (drop (suc k) journal)));
-      apart = apart;
-    }
+    let long = agree_length v listed journal k at is in
+    grind (arith, common_steps, take-append_seam, at_seam)
 
 -- the journal has come to its end
 agree_whole : (v : ℕ) (listed journal : List Entry) (k at : ℕ) → length journal ≤ k → Agree v listed journal k at → take at listed ≡ part_of v journal
@@ -130,10 +114,7 @@ count_more_own entries e = ap length (part_more_own e.volume entries e refl) ∙
 -- a volume has no more entries than there are
 pub count_within : (v : ℕ) (entries : List Entry) → count_of entries v ≤ length entries
 count_within v [] = omega arith
-count_within v (e ∷ entries) = by_test (e.volume == v) (count_within v entries) where
-  by_test : (t : Bool) → count_of entries v ≤ length entries → length (cond t (e ∷ part_of v entries) (part_of v entries)) ≤ length (e ∷ entries)
-  by_test true low = omega arith
-  by_test false low = omega arith
+count_within v (e ∷ entries) = grind (arith, common_steps, count_within v entries)
 
 pub counts_more : (counts : List ℕ) (entries : List Entry) (e : Entry) (now : ℕ) → e.volume < most_volumes → now ≡ count_of entries e.volume + 1 → AreCounts counts entries
     → AreCounts (slice_set counts e.volume now) (entries ++ e ∷ [])
@@ -142,28 +123,17 @@ counts_more counts entries e now in_range is are = grind (arith, length-slice_se
 -- ## moments
 
 pub moment_more : (entries : List Entry) (more : List Entry) (c : Cut) → IsMoment entries c → IsMoment (entries ++ more) c
-moment_more entries more c is = record {
-  within = (let l = length-append entries more in let w = is.within in omega arith);
-  counts = subst (λ (es : List Entry). All (λ (p : Part). p.count ≡ count_of es p.volume) c.parts) (sym (take-append-le c.at entries more is.within)) is.counts;
-}
+moment_more entries more c is = grind (arith, common_steps, take-append-le)
 
 -- a place is taken for the entry
 pub journal_more : (entries : List Entry) (cuts : List Cut) (places : ℕ) (e : Entry) → 0 < places → IsJournal (journal_value entries cuts places)
     → IsJournal (journal_value (entries ++ e ∷ []) cuts (places - 1))
-journal_more entries cuts places e taken is = record {
-  few = (let l = length_push entries e in let few = is.few in omega arith);
-  few_cuts = is.few_cuts;
-  moments = All-weaker (IsMoment entries) (IsMoment (entries ++ e ∷ [])) (λ c moment. moment_more entries (e ∷ []) c moment) cuts is.moments;
-}
+journal_more entries cuts places e taken is = grind (arith, common_steps, length_push, moment_more)
 
 -- parts of which none is off have the journal's counts
 pub counts_hold : (entries : List Entry) (parts : List Part) → first_off entries parts ≡ None → All (λ (p : Part). p.count ≡ count_of entries p.volume) parts
 counts_hold entries [] none = All-nil (λ (p : Part). p.count ≡ count_of entries p.volume)
-counts_hold entries (p ∷ parts) none = by_test (p.count == count_of entries p.volume) refl (counts_hold entries parts) none where
-  by_test : (t : Bool) → (p.count == count_of entries p.volume) ≡ t → (first_off entries parts ≡ None → All (λ (q : Part). q.count ≡ count_of entries q.volume) parts)
-      → (if t then first_off entries parts else Some (Differs p.volume p.count (count_of entries p.volume))) ≡ None → All (λ (q : Part). q.count ≡ count_of entries q.volume) (p ∷ parts)
-  by_test true same rest e = All-cons (λ (q : Part). q.count ≡ count_of entries q.volume) p parts (same_number p.count (count_of entries p.volume) same) (rest e)
-  by_test false same rest e = absurd cc
+counts_hold entries (p ∷ parts) none = grind (arith, common_steps, same_number, counts_hold entries parts)
 
 pub journal_cut : (entries : List Entry) (cuts : List Cut) (places at : ℕ) (parts : List Part) → at ≡ length entries → length cuts < most_cuts → first_off entries parts ≡ None
     → IsJournal (journal_value entries cuts places) → IsJournal (journal_value entries (cuts ++ record { at = at; parts = parts } ∷ []) places)

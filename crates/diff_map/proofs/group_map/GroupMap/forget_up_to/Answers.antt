@@ -1,5 +1,5 @@
-use Rattle.std.proofs.Common.{ℕ, ◌≡◌, ◌<◌, ◌∙◌, true, ltb, filter, Some, ap, sym, subst, arith}
-use Rattle.std.proofs.lemmas.Bool.Decides.{nat_tests}
+use Rattle.std.proofs.Common.{ℕ, ◌≡◌, ◌<◌, ◌∙◌, ltb, filter, Some, ap, sym, subst}
+use Rattle.std.proofs.lemmas.Bool.{lt-ltb}
 use Rattle.diff_map.specs.declared.copied.Copied.{Copied}
 use Rattle.diff_map.specs.Copies.{copied_at, MapValue}
 use Rattle.diff_map.specs.Groups.{own_copies}
@@ -7,9 +7,6 @@ use Rattle.diff_map.proofs.Counted.{KeepsCounts-left, KeepsImages-left, counts_d
 use Rattle.diff_map.proofs.GroupChanges.{is_at, here, kept, KeepsGroup-images, maps_images}
 use Rattle.diff_map.proofs.Images.{images_dropped}
 use Rattle.diff_map.proofs.group_map.GroupMap.forget_up_to.Goals as goal
-
-passes : (set image : ℕ) → set < image → ltb set image ≡ true
-passes set image stays = grind (arith, nat_tests)
 
 pub invariant_of-self : goal.invariant_of-self
 invariant_of-self c =
@@ -23,7 +20,7 @@ invariant_of-self c =
     let stays = subst (λ (m : MapValue). (slot : ℕ) (d : Copied) → copied_at m.copies slot ≡ Some d → c.args.set < d.set) (here at) c.requires.none in
     KeepsGroup-images at c.drop_first.new.items c.drop_first-2.new.items
     (KeepsImages-left (λ image. ltb c.args.set image) volume.images c.drop_first.new.items mine (kept at).images
-    (λ slot d row. passes c.args.set d.set (stays slot d row)) left c.drop_first.ensures.capacity)
+    (λ slot d row. lt-ltb c.args.set d.set (stays slot d row)) left c.drop_first.ensures.capacity)
     (KeepsCounts-left (λ image. ltb c.args.set image) volume.images c.drop_first.new.items volume.counts c.drop_first-2.new.items c.self.inside.next.items mine
     (kept at).counts left less c.drop_first-2.ensures.capacity)
 

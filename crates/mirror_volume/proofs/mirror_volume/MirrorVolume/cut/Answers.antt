@@ -3,10 +3,10 @@ use Rattle.std.specs.Prelude.{is_ok, slice_set}
 use Rattle.mirror_volume.specs.declared.mirror.Mirror.{Mirror}
 use Rattle.mirror_volume.specs.MirrorCalls.{NoneReady}
 use Rattle.mirror_volume.proofs.Held.{ready_none}
-use Rattle.mirror_volume.proofs.Counts.{new_set}
 use Rattle.mirror_volume.proofs.Standing.{cut_stands}
 use Rattle.mirror_volume.proofs.Keeping.{value_of, first_at, first_of, within_first, pushed, keeps_cut}
 use Rattle.mirror_volume.proofs.mirror_volume.MirrorVolume.cut.Goals as goal
+use Rattle.mirror_volume.proofs.Counts.{not_below}
 
 pub returns-in_default-clause-cut : goal.returns-in_default-clause-cut
 returns-in_default-clause-cut g c =
@@ -59,5 +59,5 @@ returns-clause-stands g c =
     let next : Mirror _ = record { device = c.index_mut-mirror.result.now.device; holds = Some c.args.set; stale = c.index_mut-mirror.result.now.stale } in
     rw (← c.self.view_is) (λ h stood. cut_stands g.D.Device (value_of c.self.inside.primary c.self.inside.mirrors.items c.self.inside.images.items)
     (value_of c.self.inside.primary (slice_set c.self.inside.mirrors.items c.in-Some.place next) c.push.new.self.items) c.args.set h c.self.invariant.are_mirrors
-    (new_set c.args.set c.self.inside.images.items newest) c.requires.above_zero
+    (not_below c.args.set c.self.inside.images.items newest) c.requires.above_zero
     (record { place = c.in-Some.place; split = first_of c.self.inside.mirrors.items c.in-Some.place c.index_mut-mirror.result.now at; mirrors = refl; primary = refl; images = items }) stood)
