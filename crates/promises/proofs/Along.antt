@@ -1,19 +1,19 @@
 -- The rule of snapshots: a fact of a running snapshot agenda that holds where it begins, and is kept by what is said, holds in every
 -- state, and beside it the deeds since the `snapshot` line are those of the log; and a set completes only where such an agenda,
 -- with what the last act tells, has no group left.
-use Rattle.std.proofs.Common.{◌≡◌, ◌∙◌, ℕ, ◌+◌, ◌==◌, List, [], ◌∷◌, ◌++◌, ◌⊎◌, Option, Some, None, refl, Bool, true, false, ap, sym, subst, inl, inr, map, fold}
+use Rattle.std.proofs.Common.{◌≡◌, ◌∙◌, ℕ, ◌+◌, ◌==◌, List, [], ◌∷◌, ◌++◌, ◌⊎◌, Option, Some, None, refl, Bool, true, false, ap, sym, subst, inl, inr, map}
+use Rattle.std.proofs.Common.{fold, arith}
 use Rattle.std.specs.Prelude.{is_some, ◌&&◌, not, if◌then◌else◌, length}
-use Rattle.std.proofs.Common.{arith}
 use Rattle.promises.proofs.Words.{append_nothing, Order, SetOutcome, VssResult, InsufficientStorage, AsyncPending, AsyncCancelled, Said, is_ok, Mark}
-use Rattle.promises.proofs.Words.{Write, dropped, said_of, Group, Kind, Gather, Prepare, Snapshot, Complete, Member, Agenda, Open, order_of, groups_left, left}
+use Rattle.promises.proofs.Words.{Write, dropped, said_of, Group, Kind, Gather, Prepare, Snapshot, Complete, Member, Agenda, order_of, groups_left, left}
 use Rattle.promises.proofs.Words.{open_group, next_volume, open_place, open_order, order_now, is_done, is_working, all_say, spent_of, takers, Session, opened}
-use Rattle.promises.proofs.Words.{Op, begins_agenda, Target, target_of, Plan, Event, Reply, Fine, Coded, Deleted, Idled, Stepped, State, SetRow, Kept, start}
+use Rattle.promises.proofs.Words.{Op, begins_agenda, Plan, Event, Reply, Fine, Coded, Deleted, Idled, Stepped, State, SetRow, start}
 use Rattle.promises.proofs.Words.{is_complete, in_progress, row_of, row_changed, left_now, Act, enabled, order_of_writer, answer_reply, step_reply, idle_now}
 use Rattle.promises.proofs.Words.{happens, reply_is, reply, after, state, is_pending, Settles, outcome_is_running, true_not_false, orderly, has_complete}
 use Rattle.promises.proofs.Words.{running_incomplete, incomplete_map, incomplete_append, complete_found, Deed, Spoke, Made, deeds_lost, deeds_of, deeds_if}
 use Rattle.promises.proofs.Words.{is_snapshot_line, way_after, way_from, way, Covers, covered, after_enabled, after_not_enabled, not_complete, Course, posted}
 use Rattle.promises.proofs.Words.{settled, begun, gathered, prepared, snapshot_begun, completing, change_at, stepped as course_stepped, limits_now, fails_set}
-use Rattle.promises.proofs.Words.{released, Line, Provider, Idle, runs, followed, failed_in, failed, Replied, cleared, with_room_if, put, write}
+use Rattle.promises.proofs.Words.{released, Line, Provider, Idle, runs, followed, failed_in, failed, Replied, cleared, with_room_if, write}
 use Rattle.promises.proofs.Words.{reverted_as, start_set, change_set, disable, closed, step_made, stepped_as, ticked, later, set_loses_image, new_set}
 use Rattle.promises.proofs.Words.{new_number, with_volume, volumes_of, is_disabled, selected, is_flush, is_failed_step, line_ticks, lost_after}
 use Rattle.promises.proofs.Words.{lost_order, lost_order_if, unspoken, changed_number, changed_result, begun_incomplete}
@@ -62,11 +62,8 @@ module _ (G : Agenda → Type 0) (k : IsKeptAlong G) where
   tells_rests : (so_far news : List Deed) (a : Agenda) → news ≡ [] → Tells so_far a → Tells (so_far ++ news) a
   tells_rests so_far news a e h f = ((h f).0 ∙ sym (append_nothing so_far) ∙ ap (λ ds. so_far ++ ds) (sym e), (h f).1)
 
-  settled_tells : (done : Bool) (so_far : List Deed) (a : Agenda) (o : SetOutcome) (b : Option Agenda) (p : SetOutcome) → Settles done a o b p → Tells so_far a → Running (Tells so_far) b
-  settled_tells done so_far a o b p e h = grind arith
-
   grow : (so_far news : List Deed) (a : Option Agenda) (o : SetOutcome) (b : Option Agenda) (p : SetOutcome) → Grows a o b p news → Running (Tells so_far) a → Running (Tells (so_far ++ news)) b
-  grow so_far news a o b p c h = grind (arith, settled_tells, tells_rests, tells_on)
+  grow so_far news a o b p c h = grind (arith, tells_rests, tells_on)
 
   settled_last : (done : Bool) (so_far : List Deed) (before a : Agenda) (running : Option Agenda) (o : SetOutcome) (b : Option Agenda) (p : SetOutcome)
       → running ≡ Some before → a.kind ≡ before.kind → a.members ≡ before.members → a.volumes ≡ before.volumes
@@ -105,15 +102,9 @@ module _ (G : Agenda → Type 0) (k : IsKeptAlong G) where
   on_room so_far true x h = on_failed_in so_far (in_progress x) InsufficientStorage x h
   on_room so_far false x h = h
 
-  on_put : (so_far : List Deed) (v : ℕ) (w : Write) (mark : Mark) (x : State) → Stands so_far x → Stands so_far (put v w mark x)
-  on_put so_far v w mark x h = grind arith
-
   on_write : (so_far : List Deed) (s : Plan) (v : ℕ) (w : Write) (mark : Mark) (st : State) → Stands so_far st → Stands so_far (write s v w mark st).1
   unfolding write
-  on_write so_far s v w mark st h = on_put so_far v w mark _ (on_room so_far (set_loses_image (in_progress st) st.volumes (cleared s v w.block st).volumes) (cleared s v w.block st) h)
-
-  on_reverts : (so_far : List Deed) (s : Plan) (v : ℕ) (x : Kept) (mark : Mark) (st : State) → Stands so_far st → Stands so_far (reverted_as s v x mark st).1
-  on_reverts so_far s v x mark st h = grind arith
+  on_write so_far s v w mark st h = grind (arith, on_room so_far (set_loses_image (in_progress st) st.volumes (cleared s v w.block st).volumes) (cleared s v w.block st) h)
 
   on_closes : (so_far : List Deed) (q : Session) (st : State) → Stands so_far (closed q st)
   unfolding closed released
@@ -124,12 +115,6 @@ module _ (G : Agenda → Type 0) (k : IsKeptAlong G) where
   -- the way after an enabled act
   abbrev next_way : State → List Deed → Event → Replied → List Deed
   next_way st so_far event x = if is_snapshot_line event && is_pending x.0 then [] else so_far ++ deeds_of st event x.1.clock x.0
-
-  snapshot_begins : (lane : ℕ) (o : Op) → is_snapshot_line (Line lane o) ≡ true → begins_agenda o ≡ true
-  snapshot_begins lane o e = grind arith
-
-  write_no_snapshot : (lane : ℕ) (o : Op) (t : Target) → target_of o ≡ Some t → is_snapshot_line (Line lane o) ≡ false
-  write_no_snapshot lane o t e = grind arith
 
   not_pending : (b p : Bool) → (b ≡ true → p ≡ false) → (b && p) ≡ false
   not_pending b p f = grind arith
@@ -176,7 +161,7 @@ module _ (G : Agenda → Type 0) (k : IsKeptAlong G) where
 
     line_stays : (lane : ℕ) (o : Op) (mark : Mark) (told : Reply) → line_ticks o ≡ None → (begins_agenda o ≡ true → is_pending told ≡ false) → Next (Line lane o) mark (told, st)
     line_stays lane o mark told e f =
-        (quiet st so_far lane o (told, st) e (not_pending (is_snapshot_line (Line lane o)) (is_pending told) (λ b. f (snapshot_begins lane o b))) h, λ run inc. inl inc)
+        (quiet st so_far lane o (told, st) e (not_pending (is_snapshot_line (Line lane o)) (is_pending told) (λ b. f (grind arith))) h, λ run inc. inl inc)
 
     -- time
     on_ticks : (k : ℕ) → Stands (so_far ++ lost_told (st.clock + k) (spent_of (st.clock + k) (limits_now st.course)) (left st.course.agenda)) (ticked k st)
@@ -229,12 +214,9 @@ module _ (G : Agenda → Type 0) (k : IsKeptAlong G) where
               (λ d. subst (λ ds. IsLast G ds st.course.agenda) made (completes so_far _ st.course.agenda st.course.outcome _ _ run d (grows_stepped true st.clock st.course w) h)),
         )
 
-    works_not : (os : List Open) → open_group os ≡ None → is_working os ≡ true → ⊥
-    works_not os e f = grind arith
-
     step_at : (o : Option Group) (mark : Mark) → open_group (left_now st) ≡ o → is_working (left_now st) ≡ true
         → Next Provider mark (step_reply o (next_volume (left_now st)) mark, stepped_as (is_failed_step (is_flush o) mark) o (next_volume (left_now st)) st)
-    step_at None mark e w = absurd (works_not (left_now st) e w)
+    step_at None mark e w = absurd (grind arith)
     step_at (Some g) mark e w = step_as (is_failed_step (is_flush (Some g)) mark) g mark e w
 
     steps : (mark : Mark) → is_working (left_now st) ≡ true → Next Provider mark (step_reply (open_group (left_now st)) (next_volume (left_now st)) mark, stepped mark st)
@@ -245,10 +227,10 @@ module _ (G : Agenda → Type 0) (k : IsKeptAlong G) where
     all_next = record {
       stays = λ lane o mark told e f. line_stays lane o mark told e f.agenda;
       writes = λ lane o v w mark e f. tells_none lane o mark (write s v w mark st).0 (write s v w mark st).1 (write_ticks o _ e)
-          (first_off (is_snapshot_line (Line lane o)) (is_pending (write s v w mark st).0) (write_no_snapshot lane o _ e)) (on_write so_far s v w mark st h)
+          (first_off (is_snapshot_line (Line lane o)) (is_pending (write s v w mark st).0) (grind arith)) (on_write so_far s v w mark st h)
           (incomplete_write n s v w mark st);
       reverts = λ lane m v x mark e f. tells_none lane (op.Revert m v) mark (reverted_as s v x mark st).0 (reverted_as s v x mark st).1 refl refl
-          (on_reverts so_far s v x mark st h) (incomplete_revert n s v x mark st);
+          (grind arith) (incomplete_revert n s v x mark st);
       deletes_set = λ lane m c mark e. tells_none lane (op.DeleteSet m) mark (Deleted c) (record st { volumes = map (dropped m) st.volumes }) refl refl h (λ i. i);
       deletes_image = λ lane m v x mark e. tells_none lane (op.DeleteImage m v) mark (Deleted 1) (record st { volumes = change_at v (dropped x.row.number) st.volumes }) refl refl h (λ i. i);
       ticks = λ lane k mark. ticks_line lane k mark;
@@ -279,9 +261,6 @@ module _ (G : Agenda → Type 0) (k : IsKeptAlong G) where
     abbrev way_if : Bool → Act → List Deed
     way_if b act = if b && is_snapshot_line act.event && is_pending (reply s st act) then [] else so_far ++ deeds_if b s st act
 
-    next_is : (act : Act) → enabled s st act.event ≡ true → way_after s st so_far act ≡ next_way st so_far act.event (happens s act.event act.mark st)
-    next_is act e = grind (arith, after_enabled, reply_is)
-
     next_not : (act : Act) → enabled s st act.event ≡ false → way_after s st so_far act ≡ so_far
     next_not act e = ap (λ b. way_if b act) e ∙ append_nothing so_far
 
@@ -291,12 +270,10 @@ module _ (G : Agenda → Type 0) (k : IsKeptAlong G) where
     after_by : (b : Bool) (act : Act) → enabled s st act.event ≡ b → After (way_after s st so_far act) (after s st act)
     after_by true act e =
         let A : List Deed → State → Type 0 = λ ds x. After ds x in
-        subst (λ ds. A ds (after s st act)) (sym (next_is act e))
+        subst (λ ds. A ds (after s st act)) (sym (grind (arith, after_enabled, reply_is)))
         (subst (λ (x : State). A (next_way st so_far act.event (happens s act.event act.mark st)) x) (sym (after_enabled s st act e))
         (covered Next s st all_next act.event act.mark e))
-    after_by false act e =
-        let A : List Deed → State → Type 0 = λ ds x. After ds x in
-        subst (λ ds. A ds (after s st act)) (sym (next_not act e)) (subst (λ (x : State). A so_far x) (sym (after_not_enabled s st act e)) (h, λ run inc. inl inc))
+    after_by false act e = grind (arith, next_not, after_not_enabled)
 
     pub after_act : (act : Act) → After (way_after s st so_far act) (after s st act)
     after_act act = after_by (enabled s st act.event) act refl
@@ -329,5 +306,4 @@ module _ (G : Agenda → Type 0) (k : IsKeptAlong G) where
       by_cases : (has_complete (after s (state s so_far) act).sets r.number ≡ false)
           ⊎ IsLast G (way_after s (state s so_far) (way s so_far) act) (state s so_far).course.agenda
           → IsLast G (way_after s (state s so_far) (way s so_far) act) (state s so_far).course.agenda
-      by_cases (inl i) = absurd (true_not_false (has_complete (after s (state s so_far) act).sets r.number) (complete_found 1 r.number (after s (state s so_far) act).sets q f g) i)
-      by_cases (inr i) = i
+      by_cases e = grind (arith, true_not_false, complete_found)

@@ -1,15 +1,15 @@
 -- Whoever has an order to answer is one whom it is for.
 use Rattle.std.proofs.Common.{◌≡◌, ◌∙◌, ℕ, ◌==◌, List, [], ◌∷◌, Option, Some, None, refl, Bool, true, false, ap, sym, subst, map, filter, arith, ◌+◌, zero, suc}
 use Rattle.std.specs.Prelude.{◌&&◌, ◌||◌, not, is_some, option_map, if◌then◌else◌, slice_get}
-use Rattle.promises.proofs.Words.{and_right, unless, list_any, Order, Identify, row_gathered, Group, Orders, Kind, Member, Place, Session, Plan, class_of}
+use Rattle.promises.proofs.Words.{and_right, unless, list_any, Order, Identify, Group, Orders, Kind, Member, Place, Session, Plan, class_of}
 use Rattle.promises.proofs.Words.{State, start, IsAgendaOf, Act, state, orderly, IsFor, AsksItsOwn, choosing, among_filter, filter_member, member_passes}
-use Rattle.promises.proofs.Words.{Agenda, Open, places, is_at, writers_at, members_of, waited_for, with_group, left_from, groups_left, left, is_among}
+use Rattle.promises.proofs.Words.{Agenda, Open, places, is_at, writers_at, waited_for, with_group, left_from, groups_left, left, is_among}
 use Rattle.promises.proofs.Words.{is_orders, order_of, order_if, open_order, Course, is_member, has_row_failed, posted, settled, begun, released, is_disabled}
 use Rattle.promises.proofs.Words.{Follows, goes_answered, goes_stepped, goes_timed, CourseCall, Answers, Steps, Times, Gathers, Prepares, Snapshots, Completes}
-use Rattle.promises.proofs.Words.{Disables, Releases, IsDue, of_calls, number_is, BackupComplete, VssResult, WriterState, Said, Ok, WriterRow, is_failed}
+use Rattle.promises.proofs.Words.{Disables, Releases, IsDue, of_calls, number_is, BackupComplete, VssResult, Said, Ok, WriterRow}
 use Rattle.promises.proofs.Words.{row_after, Gather, Prepare, Snapshot, Complete, has_said, is_asked, order_now, next_member, all_say, IsKeptInCourse}
 use Rattle.promises.proofs.Words.{course_answered as kept_answered, course_stepped as kept_stepped, course_timed as kept_timed, course_begun as kept_begun}
-use Rattle.promises.proofs.Words.{asked_if, unspoken, StandsWell, CompletesUnfailed, rows_where, row_if, row_failed, told, worked}
+use Rattle.promises.proofs.Words.{asked_if, unspoken, CompletesUnfailed, rows_where, row_failed, told, worked}
 use Rattle.set_agenda.specs.Course.{failed as course_failed}
 use Rattle.vss_model.proofs.Changes.{Fails, called}
 use Rattle.promises.proofs.OpenGroup.{every, in_kind, is_last_order, last_place, not_in_kind, still_open}
@@ -25,10 +25,6 @@ writers_are (m ∷ ms) w = ap (λ b. (m.writer == w) || b) (writers_are ms w)
 
 at_level_are : (ms : List Member) (l : Option _) (w : ℕ) → is_among w (writers_at ms l) ≡ true → is_member ms w ≡ true
 at_level_are ms l w e = filter_member (λ (m : Member). is_at l m.level) ms w (sym (writers_are (filter (λ (m : Member). is_at l m.level) ms) w) ∙ e)
-
--- those of a group of orders are members
-group_members : (a : Agenda) (o : Order) (l : Option _) (w : ℕ) → is_among w (members_of a (Orders o) l) ≡ true → is_member a.members w ≡ true
-group_members a o l w e = grind (arith, at_level_are, among_filter)
 
 -- ## the fact
 
@@ -47,9 +43,6 @@ asks_on s c d a b m same h = grind arith
 abbrev AsksIn : Plan → State → Type 0
 AsksIn s x = Asks s x.course.agenda x.course
 
-asks_none : (s : Plan) (a : Option Agenda) (c : Course) → is_some a ≡ false → Asks s a c
-asks_none s a c e = grind arith
-
 module _ (s : Plan) where
   asks_begun : (k : Kind) (ms : List Member) (vs : List ℕ) (now : ℕ) (c : Course) → ((w : ℕ) → is_member ms w ≡ true → IsOfKind s k c w) → Asks s (begun k ms vs now c).agenda (begun k ms vs now c)
   unfolding begun posted settled
@@ -60,13 +53,11 @@ module _ (s : Plan) where
   asks_called st (Answers w said) c i h = asks_on s c _ c.agenda _ (goes_answered w said st.clock c) (on_course_answered w said st.clock c) h
   asks_called st (Steps ok) c i h = asks_on s c _ c.agenda _ (goes_stepped ok st.clock c) (on_course_stepped ok st.clock c) h
   asks_called st (Times now) c i h = asks_on s c _ c.agenda _ (goes_timed now c) (on_course_timed now c) h
-  asks_called st Gathers c i h =
-      subst (λ d. Asks s (called s st Gathers d).agenda (called s st Gathers d)) (sym i.course)
-      (asks_begun kind.Gather _ [] st.clock (record st.course { rows = map row_gathered st.course.rows }) (λ w e. unless (is_disabled s st w) (member_passes (λ x. not (is_disabled s st x)) 0 _ w e)))
+  asks_called st Gathers c i h = grind (arith, asks_begun, unless, member_passes)
   asks_called st (Prepares q) c i h = asks_begun kind.Prepare _ [] st.clock _ (λ w e. e)
   asks_called st Snapshots c i h = asks_begun kind.Snapshot c.members _ st.clock c (λ w e. e)
   asks_called st Completes c i h = asks_begun kind.Complete _ [] st.clock c (λ w e. filter_member (λ (m : Member). not (has_row_failed c.rows m.writer)) c.members w e)
-  asks_called st (Disables w) c i h = asks_none s c.agenda _ (ap (λ (d : Course). is_some d.agenda) i.course ∙ i.goes.quiet)
+  asks_called st (Disables w) c i h = grind (arith, ap (λ (d : Course). is_some d.agenda) i.course ∙ i.goes.quiet)
   asks_called st (Fails why) c i h = tt
   asks_called st Releases c i h = tt
 
@@ -77,10 +68,7 @@ module _ (s : Plan) where
 
 waits_are : (a : Agenda) (ps : List Place) (o : Open) (os : List Open) → left_from a ps ≡ o ∷ os → o.waits ≡ waited_for a o.place
 waits_are a [] o os e = absurd cc
-waits_are a (p ∷ ps) o os e = by_waits (waited_for a p) refl e (waits_are a ps o os) where
-  by_waits : (ws : List ℕ) → waited_for a p ≡ ws → with_group p ws (left_from a ps) ≡ o ∷ os → (left_from a ps ≡ o ∷ os → o.waits ≡ waited_for a o.place) → o.waits ≡ waited_for a o.place
-  by_waits [] f g ih = ih g
-  by_waits (w ∷ ws) f g ih = let same : record { place = p; waits = w ∷ ws } ≡ o = cc in subst (λ (x : Open). x.waits ≡ waited_for a x.place) same (sym f)
+waits_are a (p ∷ ps) o os e = grind (arith, waits_are a ps o os)
 
 abbrev is_identify : Group → Bool
 is_identify (Orders Identify) = true
@@ -92,16 +80,13 @@ module _ (s : Plan) (so_far : List Act) (w : ℕ) (order : Order) where
 
   -- of a group, if w waits in it
   asked_in : (a : Agenda) (g : Group) (l : Option _) → is_among w (waited_for a (record { group = g; level = l })) ≡ true → order_of g ≡ Some order → is_member a.members w ≡ true
-  asked_in a g l e f = grind (arith, group_members, among_filter)
+  asked_in a g l e f = grind (arith, at_level_are, among_filter)
 
   now_open : (b : Bool) (x : Option Order) → order_if b x ≡ Some order → (b ≡ true) × (x ≡ Some order)
   now_open b x e = grind arith
 
   identifies : (g : Group) → is_identify g ≡ true → order_of g ≡ Some order → order ≡ Identify
   identifies g e f = grind arith
-
-  no_identify : (g : Group) → is_identify g ≡ false → order_of g ≡ Some Identify → ⊥
-  no_identify g e f = grind arith
 
   -- nothing of a disabled class
   not_disabled : (q : Option Session) → st.session ≡ q → is_some q ≡ true → is_disabled s st w ≡ false → (choosing s w so_far).disabled ≡ false
@@ -118,7 +103,7 @@ module _ (s : Plan) (so_far : List Act) (w : ℕ) (order : Order) where
 
   module _ (a : Agenda) (o : Open) (os : List Open) (runs_is : st.course.agenda ≡ Some a) (open_is : groups_left a ≡ o ∷ os) (order_is : order_of o.place.group ≡ Some order) where
     others : (k : Kind) → a.kind ≡ k → every (λ q. not (is_identify q.group)) (places k) ≡ true → is_member st.course.members w ≡ true → IsFor s so_far w order
-    others k e f m = for_other order (λ i. no_identify o.place.group (unless (is_identify o.place.group) (in_kind (λ q. not (is_identify q.group)) k a o os e f open_is)) (order_is ∙ ap Some i)) m
+    others k e f m = for_other order (λ i. grind (arith, unless (is_identify o.place.group) (in_kind (λ q. not (is_identify q.group)) k a o os e f open_is), order_is ∙ ap Some i)) m
 
     by_kind : (k : Kind) → a.kind ≡ k → IsOfKind s k st.course w → IsFor s so_far w order
     by_kind kind.Gather e m =
@@ -165,9 +150,7 @@ well_posted prior c h = h
 -- a row that is not of these
 row_stays : (f : WriterRow → WriterRow) (test : ℕ → Bool) (k : ℕ) (rows : List WriterRow) (w : ℕ) → test (k + w) ≡ false → slice_get (rows_where f test k rows) w ≡ slice_get rows w
 row_stays f test k [] w e = refl
-row_stays f test k (r ∷ rows) zero e = ap (λ b. Some (row_if b f r)) (ap test (none_more k) ∙ e) where
-  none_more : (n : ℕ) → n ≡ n + 0
-  none_more n = omega arith
+row_stays f test k (r ∷ rows) zero e = grind arith
 row_stays f test k (r ∷ rows) (suc w) e = row_stays f test (k + 1) rows w (ap test (one_on k w) ∙ e)
 
 well_said : (o : Order) (said : Said) (now : ℕ) (ws : List ℕ) (rows : List WriterRow) (x : Option Agenda) → Unfailed rows x
@@ -205,18 +188,7 @@ well_begun k ms vs now c h = well_begun_as k ms vs now c (λ w e. absurd (not_in
 unfailed_member : (rows : List WriterRow) (w : ℕ) (ms : List Member)
     → is_among w (writers_at (filter (λ (m : Member). not (has_row_failed rows m.writer)) ms) None) ≡ true → has_row_failed rows w ≡ false
 unfailed_member rows w [] e = absurd cc
-unfailed_member rows w (m ∷ ms) e = by_test (has_row_failed rows m.writer) refl e (unfailed_member rows w ms) where
-  by_head : (c : Bool) → (m.writer == w) ≡ c → has_row_failed rows m.writer ≡ false → (c || is_among w (writers_at (filter (λ (x : Member). not (has_row_failed rows x.writer)) ms) None)) ≡ true
-      → (is_among w (writers_at (filter (λ (x : Member). not (has_row_failed rows x.writer)) ms) None) ≡ true → has_row_failed rows w ≡ false) → has_row_failed rows w ≡ false
-  by_head true f g e ih = subst (λ x. has_row_failed rows x ≡ false) (number_is m.writer w f) g
-  by_head false f g e ih = ih e
-
-  by_test : (b : Bool) → has_row_failed rows m.writer ≡ b → is_among w (writers_at
-      (if not b then m ∷ filter (λ (x : Member). not (has_row_failed rows x.writer)) ms else filter (λ (x : Member). not (has_row_failed rows x.writer)) ms)
-      None) ≡ true
-      → (is_among w (writers_at (filter (λ (x : Member). not (has_row_failed rows x.writer)) ms) None) ≡ true → has_row_failed rows w ≡ false) → has_row_failed rows w ≡ false
-  by_test true f e ih = ih e
-  by_test false f e ih = by_head (m.writer == w) refl f e ih
+unfailed_member rows w (m ∷ ms) e = grind (arith, number_is, unfailed_member rows w ms)
 
 waiting_there : (waits : List ℕ) (w : ℕ) → is_asked w (with_group last_place waits []) ≡ true → is_among w waits ≡ true
 waiting_there waits w e = grind arith
@@ -250,8 +222,5 @@ well_called s st Releases c h = nobody (released c).rows
 well : (s : Plan) (acts : List Act) → Well (state s acts).course
 well s acts = of_calls Well s (λ st call c i h. well_called s st call c h) (start s) acts (nobody (start s).course.rows)
 
-stands_well : (state : WriterState) → is_failed state ≡ false → StandsWell state
-stands_well state e = grind arith
-
 pub completes_unfailed : (s : Plan) (so_far : List Act) → CompletesUnfailed s so_far
-completes_unfailed s so_far w row e f = stands_well row.state (ap row_failed (sym f) ∙ well s so_far w e)
+completes_unfailed s so_far w row e f = grind (arith, ap row_failed (sym f) ∙ well s so_far w e)

@@ -1,17 +1,17 @@
 -- A set that fails has the code of its cause.
 use Rattle.std.proofs.Common.{◌≡◌, ◌∙◌, ℕ, ◌+◌, List, [], ◌∷◌, Option, Some, None, refl, Bool, true, false, ap, sym, subst, arith}
 use Rattle.std.specs.Prelude.{◌&&◌, not, if◌then◌else◌}
-use Rattle.promises.proofs.Words.{next_volume, both_ways, Order, SetOutcome, Failed as FailedSet, VssResult, Timeout, is_ok, Mark, Write, said_of, Group, Limit, Agenda}
-use Rattle.promises.proofs.Words.{Open, groups_left, open_group, open_order, order_now, is_working, left, Running as RunningLimit, first_hold, running_at}
-use Rattle.promises.proofs.Words.{running_limits, spent_of, held_here, frozen_here, IsSpentHere, spent_here, Session, Op, target_of, Plan, Event, Line, State}
-use Rattle.promises.proofs.Words.{SetRow, in_progress, left_now, followed, runs, failed_in, failed, has_failed, Act, idle_now, state, holds_volumes}
-use Rattle.promises.proofs.Words.{held_too_long, frozen_too_long, outcome_is_running, hold_late, freeze_late, set_failure, Rising, late_code_at, late_code_in}
-use Rattle.promises.proofs.Words.{late_code, IsAnswerCode, IsLineCode, IsCode, FailsByCode, Covers, covered, after_enabled, some_same}
-use Rattle.promises.proofs.Words.{none_settled as calm_settled, false_from_ne_true, AsyncCancelled, UnexpectedProviderError, InsufficientStorage}
-use Rattle.promises.proofs.Words.{HoldWritesTimeout, WriterNotResponding, Answer as AnswerLimit, Course, posted, settled, told, is_decisive, decided}
-use Rattle.promises.proofs.Words.{answered_to, answered as course_answered, stepped as course_stepped, freeze_limit, limits_now, lost, lost_to, fails_set}
-use Rattle.promises.proofs.Words.{lost_decided, treated_as, treated, timed as course_timed, set_loses_image, Replied, cleared, with_room_if, put}
-use Rattle.promises.proofs.Words.{write, reverted_as, start_set, closed, step_made, stepped_as, ticked, later, is_flush, is_failed_step}
+use Rattle.promises.proofs.Words.{next_volume, both_ways, Order, SetOutcome, Failed as FailedSet, VssResult, Timeout, is_ok, Mark, Write, said_of, Group, Limit}
+use Rattle.promises.proofs.Words.{Agenda, Open, groups_left, open_group, open_order, is_working, left, Running as RunningLimit, first_hold, running_at}
+use Rattle.promises.proofs.Words.{running_limits, spent_of, held_here, frozen_here, IsSpentHere, spent_here, Session, Plan, Event, Line, State, SetRow}
+use Rattle.promises.proofs.Words.{in_progress, left_now, followed, runs, failed_in, failed, has_failed, Act, idle_now, state, holds_volumes, held_too_long}
+use Rattle.promises.proofs.Words.{frozen_too_long, outcome_is_running, hold_late, freeze_late, set_failure, Rising, late_code_at, late_code_in, late_code}
+use Rattle.promises.proofs.Words.{IsAnswerCode, IsCode, FailsByCode, Covers, covered, after_enabled, some_same, none_settled as calm_settled}
+use Rattle.promises.proofs.Words.{false_from_ne_true, AsyncCancelled, UnexpectedProviderError, InsufficientStorage, HoldWritesTimeout, WriterNotResponding}
+use Rattle.promises.proofs.Words.{Answer as AnswerLimit, Course, posted, settled, told, is_decisive, decided, answered_to, answered as course_answered}
+use Rattle.promises.proofs.Words.{stepped as course_stepped, freeze_limit, limits_now, lost, lost_decided, treated_as, treated, timed as course_timed}
+use Rattle.promises.proofs.Words.{set_loses_image, Replied, cleared, with_room_if, put, write, start_set, closed, step_made, stepped_as, ticked, later}
+use Rattle.promises.proofs.Words.{is_flush, is_failed_step}
 use Rattle.vss_names.specs.declared.vss_result.VssResult.TheVariants.{Writer as WriterFault}
 use Rattle.writer_state.specs.declared.said.Said.TheVariants as said
 use Rattle.writer_calls.specs.declared.answer.Answer.{Answer}
@@ -68,8 +68,7 @@ module _ (now : ℕ) (c : Course) (a : Agenda) (o : Open) (l : RunningLimit) whe
 
   by_limit : (x : Limit) → FromFirst → IsSpentHere now (freeze_limit c) a o l x → code_of_limit x ≡ code (held_too_long now o.place.group a) (frozen_too_long now o.place.group c a)
   by_limit HoldLimit first e = ap (λ b. code b (frozen_too_long now o.place.group c a)) (sym (hold_late now o.place.group a (first_hold a.log) l refl e))
-  by_limit FreezeLimit first e =
-      ap (λ b. code false b) (sym (freeze_late now o.place.group c a l e.1)) ∙ ap (λ b. code b (frozen_too_long now o.place.group c a)) (sym (not_held first e.0))
+  by_limit FreezeLimit first e = grind (arith, freeze_late, not_held)
   by_limit AnswerLimit first e = ap (λ b. code false b) (sym (not_frozen e.1)) ∙ ap (λ b. code b (frozen_too_long now o.place.group c a)) (sym (not_held first e.0))
 
 code_left : (now : ℕ) (c : Course) (a : Agenda) (os : List Open) (l : RunningLimit) → groups_left a ≡ os → spent_of now (running_at (freeze_limit c) a os) ≡ Some l
@@ -96,20 +95,15 @@ module _ (why : VssResult) (c : Course) (run : has_failed c.outcome ≡ false) w
     by_answer (Veto error) true e = same_reason why (WriterFault error) (sym e ∙ failed_outcome (WriterFault error) (told o (said.Veto error) now (w ∷ []) c))
     by_answer (Veto error) false e = settled_reason (told o (said.Veto error) now (w ∷ []) c) (told_outcome o (said.Veto error) now (w ∷ []) c) e
 
-  lost_outcome : (o : Option Order) (now : ℕ) → (lost_to o now c).outcome ≡ c.outcome
-  lost_outcome o now = grind (arith, told_outcome)
-
   time_reason : (l : Option RunningLimit) (now : ℕ) → (treated l now c).outcome ≡ FailedSet why → (m : RunningLimit) → l ≡ Some m → why ≡ code_of_limit m.limit
   time_reason None now e m f = absurd cc
   time_reason (Some l) now e m f = subst (λ (x : RunningLimit). why ≡ code_of_limit x.limit) (some_same l m f) (by_limit l.limit e) where
     by_order : (b : Bool) → (lost_decided b (lost now c)).outcome ≡ FailedSet why → why ≡ WriterNotResponding
     by_order true e = same_reason why WriterNotResponding (sym e ∙ failed_outcome WriterNotResponding (lost now c))
-    by_order false e = settled_reason (lost now c) (lost_outcome (order_now (left c.agenda)) now) e
+    by_order false e = settled_reason (lost now c) (grind (arith, told_outcome)) e
 
     by_limit : (x : Limit) → (treated_as x now c).outcome ≡ FailedSet why → why ≡ code_of_limit x
-    by_limit HoldLimit e = same_reason why HoldWritesTimeout (sym e ∙ failed_outcome HoldWritesTimeout c)
-    by_limit FreezeLimit e = same_reason why (WriterFault Timeout) (sym e ∙ failed_outcome (WriterFault Timeout) (lost now c))
-    by_limit AnswerLimit e = by_order (fails_set (order_now (left c.agenda))) e
+    by_limit x e = grind (arith, same_reason, failed_outcome, by_order)
 
   -- time fails nothing where no limit is spent
   late_reason : (now : ℕ) → Running (λ (x : Agenda). x.kind ≡ kind.Snapshot → Rising (times x.log)) c.agenda
@@ -146,28 +140,20 @@ module _ (s : Plan) (so_far : List Act) (why : VssResult) where
   abort_reason : (o : Option SetRow) (code : VssResult) → in_progress st ≡ o → has_failed st.course.outcome ≡ false → (failed_in o code st).course.outcome ≡ FailedSet why
       → why ≡ code
   unfolding course_failed
-  abort_reason None code e f g = calm_reason st.course.outcome why f g
-  abort_reason (Some r) code e f g = same_reason why code (sym g)
+  abort_reason o code e f g = grind (arith, calm_reason, same_reason)
 
   course_put : (v : ℕ) (w : Write) (mark : Mark) (x : State) → (put v w mark x).course ≡ x.course
   course_put v w mark x = grind arith
 
   room_reason : (b : Bool) (v block : ℕ) → has_failed st.course.outcome ≡ false → (with_room_if b (cleared s v block st)).course.outcome ≡ FailedSet why → why ≡ InsufficientStorage
   unfolding course_failed
-  room_reason true v block f g = by_set (in_progress st) g where
-    by_set : (o : Option SetRow) → (failed_in o InsufficientStorage (cleared s v block st)).course.outcome ≡ FailedSet why → why ≡ InsufficientStorage
-    by_set None g = calm_reason st.course.outcome why f g
-    by_set (Some r) g = same_reason why InsufficientStorage (sym g)
-  room_reason false v block f g = calm_reason st.course.outcome why f g
+  room_reason b v block f g = grind (arith, calm_reason, same_reason)
 
   write_reason : (v : ℕ) (w : Write) (mark : Mark) → set_failure (in_progress st) (write s v w mark st).1 ≡ Some why → why ≡ InsufficientStorage
   unfolding write
   write_reason v w mark e =
       room_reason (set_loses_image (in_progress st) st.volumes (cleared s v w.block st).volumes) v w.block (was_running _ e)
       (ap (λ (c : Course). c.outcome) (sym (course_put v w mark _)) ∙ of_turn _ (runs st) (write_turn s so_far v w mark) e)
-
-  write_code : (lane : ℕ) (o : Op) (t : _) → target_of o ≡ Some t → why ≡ InsufficientStorage → IsLineCode st o why
-  write_code lane o t e f = grind arith
 
   begun_code : (event : Event) (c : Course) → (has_failed st.course.outcome ≡ false → has_failed c.outcome ≡ false) → set_failure (in_progress st) (followed true c st) ≡ Some why
       → IsCode st event why
@@ -214,14 +200,11 @@ module _ (s : Plan) (so_far : List Act) (why : VssResult) where
   unchanged : (event : Event) → set_failure (in_progress st) st ≡ Some why → IsCode st event why
   unchanged event e = same_sets event st (λ n. refl) e
 
-  revert_course : (v : ℕ) (k : _) (mark : Mark) → (reverted_as s v k mark st).1.course.outcome ≡ st.course.outcome
-  revert_course v k mark = grind arith
-
   codes : Covers Next s st
   codes = record {
     stays = λ lane o mark told e f. unchanged (Line lane o);
-    writes = λ lane o v w mark e f g. write_code lane o _ e (write_reason v w mark g);
-    reverts = λ lane n v k mark e f g. calm_reason st.course.outcome why (was_running _ g) (sym (revert_course v k mark) ∙ of_turn _ (runs st) (revert_turn s so_far v k mark) g);
+    writes = λ lane o v w mark e f g. grind (arith, write_reason v w mark g);
+    reverts = λ lane n v k mark e f g. calm_reason st.course.outcome why (was_running _ g) (sym (grind arith) ∙ of_turn _ (runs st) (revert_turn s so_far v k mark) g);
     deletes_set = λ lane n c mark e. same_sets (Line lane (op.DeleteSet n)) _ (λ m. refl);
     deletes_image = λ lane n v k mark e. same_sets (Line lane (op.DeleteImage n v)) _ (λ m. refl);
     ticks = λ lane n mark. tick_code n;

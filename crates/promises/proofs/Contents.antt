@@ -1,17 +1,16 @@
 -- What changes the contents of a volume, and that each copy holds its block as it was at the cut of its set.
 use Rattle.std.proofs.Common.{◌≡◌, ◌∙◌, ℕ, ◌==◌, zero, suc, List, [], ◌∷◌, ◌++◌, Some, None, refl, Bool, true, false, ◌<◌, ap, sym, subst, length, take, arith}
 use Rattle.std.proofs.Common.{map, ◌+◌, Option}
-use Rattle.std.specs.Prelude.{◌&&◌, if◌then◌else◌, ◌||◌, slice_get, All}
+use Rattle.std.specs.Prelude.{◌&&◌, if◌then◌else◌, slice_get, All}
 use Rattle.scenario.specs.declared.op.Op.TheVariants as op
 use Rattle.vss_model.specs.Changes.{Writes}
 use Rattle.promises.proofs.Members.{same_number}
-use Rattle.promises.proofs.Words.{payload_bytes, zeros, Mark, Clean, FaultAfter, Write, History, last_bytes, content, written, to_restore, is_among, line_of}
-use Rattle.promises.proofs.Words.{does, Plan, blocks_of, Event, Line, State, Kept, history_of, kept_image, Act, enabled, happens, after, state, as_many_volumes}
-use Rattle.promises.proofs.Words.{at, as_many_map, as_many_gone, block_now, may_change, ContentsChange, changes_by, after_enabled, all_taken, change_at}
-use Rattle.promises.proofs.Words.{revert_refusal, Replied, with_room_if, write, reverted_as, revert, Change, Reverts, RevertsPart, apply, IsWrite, IsRevert}
-use Rattle.promises.proofs.Words.{Comes, by_changes, rewrites, same_writes, take-length, restoring, number_is, All-nil, All-cons, All-append, Image, point_in}
-use Rattle.promises.proofs.Words.{AreLater, AreInTime, Placed, Copy, copy_of, named, copies_of, copies_from, cut, IsShownAt, image_shown, image_reads}
-use Rattle.promises.proofs.Words.{images_in_time, place_from, HoldsTheCut, CopiesHold, within}
+use Rattle.promises.proofs.Words.{payload_bytes, zeros, Mark, Clean, FaultAfter, Write, History, last_bytes, content, written, to_restore, is_among, does, Plan}
+use Rattle.promises.proofs.Words.{blocks_of, Event, Line, State, Kept, history_of, kept_image, Act, enabled, happens, after, state, as_many_volumes, at}
+use Rattle.promises.proofs.Words.{as_many_map, as_many_gone, block_now, may_change, ContentsChange, after_enabled, all_taken, change_at, revert_refusal}
+use Rattle.promises.proofs.Words.{Replied, write, reverted_as, revert, Change, Reverts, RevertsPart, apply, IsRevert, Comes, by_changes, rewrites, same_writes}
+use Rattle.promises.proofs.Words.{take-length, restoring, number_is, All-nil, All-cons, All-append, Image, point_in, AreLater, AreInTime, Placed, Copy, copy_of}
+use Rattle.promises.proofs.Words.{named, copies_of, copies_from, cut, image_shown, image_reads, images_in_time, place_from, HoldsTheCut, CopiesHold, within}
 
 -- ## What changes the contents of a volume.
 
@@ -23,13 +22,7 @@ last_append b before (w ∷ ws) us = last_append b (if w.block == b then w.bytes
 
 last_restored : (ws : List Write) (point b : ℕ) (bs : List ℕ) (before : List ℕ) → last_bytes b before (map (restoring ws point) bs) ≡ (if is_among b bs then content ws point b else before)
 last_restored ws point b [] before = refl
-last_restored ws point b (c ∷ bs) before = last_restored ws point b bs (if c == b then content ws point c else before) ∙ by_block (c == b) (is_among b bs) refl
-  where
-    by_block : (d among : Bool) → (c == b) ≡ d → (if among then content ws point b else (if d then content ws point c else before)) ≡ (if d || among then content ws point b else before)
-    by_block true true e = refl
-    by_block true false e = ap (content ws point) (number_is c b e)
-    by_block false true e = refl
-    by_block false false e = refl
+last_restored ws point b (c ∷ bs) before = grind (arith, number_is, last_restored ws point b bs (if c == b then content ws point c else before))
 
 -- these blocks are written once more as they were at a point, and the others stay
 pub some_restored : (ws : List Write) (point b : ℕ) (bs : List ℕ) → content (ws ++ map (restoring ws point) bs) (length (ws ++ map (restoring ws point) bs)) b
@@ -74,15 +67,11 @@ module _ (s : Plan) (st : State) (v b : ℕ) where
   stay_written u w x true f g h = written_at w u x.volumes v (ap (λ c. c && (w.block == b)) (sym f) ∙ g) ∙ h
   stay_written u w x false f g h = by_writes (Writes u w) x f h
 
-  other_target : (e : Event) (m : Mark) (u : ℕ) (w : Write) → IsWrite e m st u w → may_change v b e m ≡ false → ((u == v) && (w.block == b)) ≡ false
-  other_target e m u w i g =
-      ap (λ l. changes_by v b l Clean) (sym i.writes) ∙ ap (λ k. changes_by v b (line_of i.line) k) (sym i.clean) ∙ ap (λ y. may_change v b y m) (sym i.event) ∙ g
-
   other_revert : (e : Event) (m : Mark) (u n p : ℕ) → IsRevert e st u n p → may_change v b e m ≡ false → (u == v) ≡ false
   other_revert e m u n p i g = ap (λ y. may_change v b y m) (sym i.event) ∙ g
 
   stays : (e : Event) (m : Mark) → may_change v b e m ≡ false → (c : Change) (x : State) → Comes s e m st x c → Stays x.volumes → Stays (apply x c).volumes
-  stays e m g (Writes u w) x i h = stay_written u w x (u == v) refl (other_target e m u w i g) h
+  stays e m g (Writes u w) x i h = stay_written u w x (u == v) refl (grind arith) h
   stays e m g (Reverts u n p) x i h = by_writes (Reverts u n p) x (other_revert e m u n p i.0 g) h
   stays e m g (RevertsPart u blocks n p k) x i h = by_writes (RevertsPart u blocks n p k) x (other_revert e m u n p i.0 g) h
   stays e m g c x i h = by_writes c x refl h
@@ -93,13 +82,9 @@ module _ (s : Plan) (st : State) (v b : ℕ) where
 -- ## what a write and a revert bring
 
 changed_here : (f : History → History) (v : ℕ) (hs : List History) → v < length hs → at (change_at v f hs) v ≡ f (at hs v)
-changed_here f v [] l = absurd (nothing v l) where
-  nothing : (v : ℕ) → v < 0 → ⊥
-  nothing v l = omega arith
+changed_here f v [] l = grind arith
 changed_here f zero (h ∷ hs) l = refl
-changed_here f (suc v) (h ∷ hs) l = changed_here f v hs (below v (length hs) l) where
-  below : (v n : ℕ) → suc v < suc n → v < n
-  below v n l = omega arith
+changed_here f (suc v) (h ∷ hs) l = grind (arith, changed_here f v hs (grind arith))
 
 last_own : (b : ℕ) (before : List ℕ) (ws : List Write) (w : Write) → (w.block == b) ≡ true → last_bytes b before (ws ++ w ∷ []) ≡ w.bytes
 last_own b before [] w e = ap (λ t. if t then w.bytes else before) e
@@ -108,13 +93,10 @@ last_own b before (x ∷ ws) w e = last_own b (if x.block == b then x.bytes else
 own_block : (ws : List Write) (w : Write) → content (ws ++ w ∷ []) (length (ws ++ w ∷ [])) w.block ≡ w.bytes
 own_block ws w = now_is (ws ++ w ∷ []) w.block ∙ last_own w.block zeros ws w (same_number w.block)
 
-as_many_room : (b : Bool) (x : State) → length (with_room_if b x).volumes ≡ length x.volumes
-as_many_room b x = grind (arith, as_many_map)
-
 module _ (s : Plan) (st : State) where
   write_brings : (v : ℕ) (w : Write) (mark : Mark) → mark ≡ Clean → v < length st.volumes → block_now (write s v w mark st).1 v w.block ≡ w.bytes
   unfolding write
-  write_brings v w mark e l = grind (arith, as_many_room, as_many_gone, changed_here, own_block)
+  write_brings v w mark e l = grind (arith, as_many_map, as_many_gone, changed_here, own_block)
 
   revert_brings : (v b : ℕ) (k : Kept) (mark : Mark) → mark ≡ Clean → v < length st.volumes → block_now (reverted_as s v k mark st).1 v b ≡ content (history_of st v).writes k.point b
   revert_brings v b k mark e l = grind (arith, changed_here, now_is)
@@ -161,28 +143,19 @@ record IsOfImage (u : ℕ) (ws : List Write) (images : List Image) (c : Copy) : 
   is : point_in c.set images ≡ Some point
   holds : c.bytes ≡ content ws point c.block
 
-first_point : (b : Bool) (p : ℕ) (o : Option ℕ) → b ≡ true → (if b then Some p else o) ≡ Some p
-first_point b p o e = grind arith
-
 later_point : (b : Bool) (p : ℕ) (o : Option ℕ) → b ≡ false → (if b then Some p else o) ≡ o
 later_point b p o e = grind arith
 
 -- a later image is of a later set
 pub later_set : (i : Image) (m p : ℕ) (images : List Image) → AreLater i images → point_in m images ≡ Some p → (i.set == m) ≡ false
 later_set i m p [] h e = absurd cc
-later_set i m p (j ∷ images) h e = by_head (j.set == m) refl e (later_set i m p images h.2) where
-  differs : (a b m : ℕ) → a < b → (b == m) ≡ true → (a == m) ≡ false
-  differs a b m l e = grind arith
-
-  by_head : (b : Bool) → (j.set == m) ≡ b → (if b then Some j.point else point_in m images) ≡ Some p → (point_in m images ≡ Some p → (i.set == m) ≡ false) → (i.set == m) ≡ false
-  by_head true f e ih = differs i.set j.set m h.0 f
-  by_head false f e ih = ih e
+later_set i m p (j ∷ images) h e = grind (arith, later_set i m p images h.2)
 
 own_copies : (u : ℕ) (ws : List Write) (i : Image) (newer : List Image) (bs : List ℕ) → All (IsOfImage u ws (i ∷ newer)) (map (copy_of u ws i) bs)
 own_copies u ws i newer [] = All-nil (IsOfImage u ws (i ∷ newer))
 own_copies u ws i newer (b ∷ bs) =
     All-cons (IsOfImage u ws (i ∷ newer)) (copy_of u ws i b) (map (copy_of u ws i) bs)
-    (record { volume = refl; point = i.point; is = first_point (i.set == i.set) i.point (point_in i.set newer) (same_number i.set); holds = refl })
+    (record { volume = refl; point = i.point; is = grind (arith, same_number i.set); holds = refl })
     (own_copies u ws i newer bs)
 
 all_along : (P Q : Copy → Type 0) (cs : List Copy) → ((c : Copy) → P c → Q c) → All P cs → All Q cs
@@ -236,11 +209,8 @@ record HasCut (s : Plan) (n : ℕ) (so_far : List Act) : Type 0 where
   before : List Act
   is : cut s n so_far ≡ Some before
 
-was_cut : (s : Plan) (so_far : List Act) (n v p : ℕ) (ws : List Write) (o : Option (List Act)) → cut s n so_far ≡ o → IsShownAt s v p ws o → HasCut s n so_far
-was_cut s so_far n v p ws o e h = grind arith
-
 shows_cut : (s : Plan) (so_far : List Act) (ps : List Placed) (c : Copy) → IsInGroup 0 ps (state s so_far).volumes c → HoldsTheCut s so_far ps c
-shows_cut s so_far ps c i = grind (arith, was_cut, image_shown, image_reads)
+shows_cut s so_far ps c i = grind (arith, image_shown, image_reads)
 
 pub copies_hold : (s : Plan) (so_far : List Act) → CopiesHold s so_far
 copies_hold s so_far v = grind (arith, all_along, shows_cut, in_group, images_in_time)

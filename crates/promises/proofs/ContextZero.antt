@@ -3,7 +3,6 @@ use Rattle.std.proofs.Common.{◌≡◌, ◌∙◌, ℕ, ◌+◌, ◌==◌, ◌<
 use Rattle.std.proofs.Common.{◌++◌}
 use Rattle.std.specs.Prelude.{◌&&◌, not, nat_lt, is_some, if◌then◌else◌, option_map}
 use Rattle.requestor.specs.declared.session_call.SessionCall.TheVariants as call
-use Rattle.scenario.specs.declared.op.Op.TheVariants as op
 use Rattle.vss_model.proofs.StateForm.{answered, stepped}
 use Rattle.promises.proofs.Contexts.{context_in, context_map, changed_number, changed_context, context_other, context_new, HasMade, Owned, NoMore, Relates}
 use Rattle.promises.proofs.Contexts.{relates_same, relates_over, relates_followed, relates_failed, relates_room, relates_put, owned_by, cut_contexts}
@@ -14,12 +13,11 @@ use Rattle.promises.proofs.Words.{lt-ltb, Mark, Clean, Fault, FaultAfter, Image,
 use Rattle.promises.proofs.Words.{DeleteSet, DeleteImage, Revert, Plan, blocks_of, Event, Line, State, Kept, has_image, is_kept_set, row_of, history_of}
 use Rattle.promises.proofs.Words.{kept_image, Act, enabled, happens, after, state, row_number, kept_point, at, reverts, IsDone, stands, after_enabled}
 use Rattle.promises.proofs.Words.{some_same, false_from_ne_true, count_images, revert_refusal, Replied, delete_set, delete_kept, delete_image, reverted_as}
-use Rattle.promises.proofs.Words.{revert, Context, Backup, VssResult, AsyncCancelled, Said, Write, said_of, open_group, Group, Stage, Session, has_writers}
-use Rattle.promises.proofs.Words.{opened, started, is_stage, SetRow, start, in_progress, row_changed, left_now, followed, runs, failed, NumberedFrom}
-use Rattle.promises.proofs.Words.{IsOfSession as IsSessionOfSet, is_early, LetsGo, is_provider, idle_now, after_commit, is_commit, next_volume, fewer_after}
-use Rattle.promises.proofs.Words.{fewer_followed, true_not_false, orderly, BackupsEnd, Covers, covered, after_not_enabled, and_parts, by_acts}
-use Rattle.promises.proofs.Words.{answered as course_answered, stepped as course_stepped, timed as course_timed, Opened, Gathered, is_backup, write, start_set}
-use Rattle.promises.proofs.Words.{images_released, closed, image_made, step_made, stepped_as, ticked, later, new_set, new_number, with_volume, number_is}
+use Rattle.promises.proofs.Words.{revert, Context, Backup, VssResult, Said, Write, open_group, Group, Session, started, SetRow, start, in_progress, left_now}
+use Rattle.promises.proofs.Words.{followed, runs, failed, NumberedFrom, IsOfSession as IsSessionOfSet, is_early, LetsGo, is_provider, after_commit, is_commit}
+use Rattle.promises.proofs.Words.{next_volume, fewer_after, fewer_followed, true_not_false, orderly, BackupsEnd, Covers, covered, after_not_enabled, and_parts}
+use Rattle.promises.proofs.Words.{by_acts, answered as course_answered, stepped as course_stepped, timed as course_timed, is_backup, write, start_set}
+use Rattle.promises.proofs.Words.{images_released, closed, image_made, step_made, stepped_as, ticked, later, new_set, new_number, number_is}
 
 -- ## What was asked for is done.
 
@@ -50,14 +48,8 @@ newer_gone n m images l e = not_itself (nat_lt n m) (lt-ltb n m l) (kept_by (λ 
 -- where no image is counted, none stands
 none_counted : (n : ℕ) (hs : List History) (v : ℕ) → nat_lt 0 (count_images n hs) ≡ false → has_image n (at hs v) ≡ true → ⊥
 none_counted n [] v e f = no_image n v f
-none_counted n (h ∷ hs) zero e f = counted (has_image n h) (count_images n hs) f e where
-  counted : (b : Bool) (k : ℕ) → b ≡ true → nat_lt 0 ((if b then 1 else 0) + k) ≡ false → ⊥
-  counted true k e f = grind arith
-  counted false k e f = cc
-none_counted n (h ∷ hs) (suc v) e f = none_counted n hs v (fewer (has_image n h) (count_images n hs) e) f where
-  fewer : (b : Bool) (k : ℕ) → nat_lt 0 ((if b then 1 else 0) + k) ≡ false → nat_lt 0 k ≡ false
-  fewer true k e = grind arith
-  fewer false k e = grind arith
+none_counted n (h ∷ hs) zero e f = grind arith
+none_counted n (h ∷ hs) (suc v) e f = grind (arith, none_counted n hs v (grind arith) f)
 
 -- ## the lines
 
@@ -115,9 +107,6 @@ is_done s so_far act =
 
 -- ## a new set
 
-starts_early : (stage : Stage) (writers : Bool) → (if writers then is_stage stage Gathered else is_stage stage Opened) ≡ true → is_early stage ≡ true
-starts_early stage w e = grind arith
-
 owned_start : (q : Session) (st : State) → LetsGo call.Start q st → NumberedFrom 1 st.sets → Owned st → Owned (start_set q st).1
 owned_start q st g num h = record {
   own = λ n v c i. by_number n v (new_number st == n) refl c i;
@@ -126,15 +115,8 @@ owned_start q st g num h = record {
       (context_new 1 st.sets (new_set (new_number st) q.context) num refl ∙ ap Some here.1);
   early = λ p e f. absurd (not_early p e f);
 } where
-  none_some : {X : Type 0} (o : Option ℕ) (n : ℕ) → o ≡ None → o ≡ Some n → X
-  none_some o n e f = absurd cc
-
   of_new : (p : Session) (n : ℕ) → Some (started (new_number st) q) ≡ Some p → p.set ≡ Some n → (new_number st ≡ n) × (q.context ≡ p.context)
-  of_new p n e f = (
-    some_same (new_number st) n (ap (λ (y : Session). y.set) (some_same (started (new_number st) q) p e) ∙ f),
-    ap (λ (y : Session). y.context)
-        (some_same (started (new_number st) q) p e),
-  )
+  of_new p n e f = grind (arith, some_same)
 
   not_early : (p : Session) → Some (started (new_number st) q) ≡ Some p → is_early p.stage ≡ true → ⊥
   not_early p e f = true_not_false (is_early p.stage) f (ap (λ (y : Session). is_early y.stage) (sym (some_same (started (new_number st) q) p e)))
@@ -145,7 +127,7 @@ owned_start q st g num h = record {
   by_number n v false e c i =
       let made = h.own n v (sym (context_other st.sets (new_set (new_number st) q.context) n e) ∙ c) i in
       let same = some_same made.session q (sym made.is ∙ g.stands) in
-      none_some q.set n (h.early q g.stands (starts_early q.stage (has_writers q.context) g.allowed)) (ap (λ (y : Session). y.set) (sym same) ∙ made.set)
+      grind (arith, h.early q g.stands (grind (arith, g.allowed)), ap (λ (y : Session). y.set) (sym same) ∙ made.set)
 
 -- ## every act
 
@@ -172,17 +154,11 @@ module _ (s : Plan) (st : State) (num : NumberedFrom 1 st.sets) (h : Owned st) w
   unfolding ticked
   related_tick n = relates_followed (runs st) (course_timed (st.clock + n) st.course) (later n st)
 
-  made_contexts : (g : Option Group) (v : Option ℕ) (n : ℕ) → context_in (step_made g v st).sets n ≡ context_in st.sets n
-  made_contexts g v n = grind (arith, cut_contexts)
-
-  made_session : (g : Option Group) (v : Option ℕ) → (step_made g v st).session ≡ st.session
-  made_session g v = grind arith
-
   related_step_as : (b : Bool) (g : Option Group) (v : Option ℕ) → Relates st.sets st.session (stepped_as b g v st)
   related_step_as true g v = relates_followed (runs st) (course_stepped false st.clock st.course) st
   related_step_as false g v =
-      subst (λ p. Relates st.sets p (followed (runs st) (course_stepped true st.clock st.course) (step_made g v st))) (made_session g v)
-      (relates_over st.sets (step_made g v st).sets (step_made g v st).session _ (made_contexts g v) (relates_followed (runs st) (course_stepped true st.clock st.course) (step_made g v st)))
+      subst (λ p. Relates st.sets p (followed (runs st) (course_stepped true st.clock st.course) (step_made g v st))) (grind arith)
+      (relates_over st.sets (step_made g v st).sets (step_made g v st).session _ (grind (arith, cut_contexts)) (relates_followed (runs st) (course_stepped true st.clock st.course) (step_made g v st)))
 
   related_step : (mark : Mark) → Relates st.sets st.session (stepped mark st)
   unfolding stepped
@@ -213,45 +189,18 @@ module _ (s : Plan) (st : State) (num : NumberedFrom 1 st.sets) (h : Owned st) w
     none_some : {X : Type 0} (o : Option Session) (p : Session) → o ≡ None → o ≡ Some p → X
     none_some o p e f = absurd cc
 
-    some_context : (x y : Context) → Some x ≡ Some y → y ≡ x
-    some_context x y e = cc
-
     gone : (n v : ℕ) → context_in (closed q (failed why st)).sets n ≡ Some Backup → stands (closed q (failed why st)) n v ≡ true → ⊥
     gone n v c g =
         let con : context_in st.sets n ≡ Some Backup = sym ((relates_failed (in_progress st) why st).contexts n) ∙ sym (ap (λ rows. context_in rows n) (closed_sets q (failed why st))) ∙ c in
         let made = h.own n v con (img n v g) in
         let set : q.set ≡ Some n = ap (λ (y : Session). y.set) (some_same q made.session (sym e ∙ made.is)) ∙ made.set in
-        none_left q (failed why st) n v (some_context Backup q.context (sym con ∙ h.same q n e set)) set g
+        none_left q (failed why st) n v (grind (arith, sym con ∙ h.same q n e set)) set g
 
   on_begin : (q : Session) (x : State) → st.session ≡ None → q.set ≡ None → x.sets ≡ st.sets → x.session ≡ Some q → NoMore st x → Owned x
   on_begin q x e f sets ses img = grind arith
 
   owned_next : Covers Next s st
-  owned_next = record {
-    stays = λ lane o mark told e f img. h;
-    writes = λ lane o v w mark e f. by _ (related_write v w mark);
-    reverts = λ lane n v k mark e f. by _ (related_revert v k mark);
-    deletes_set = λ lane n c mark e. by _ (relates_same st.sets _ (λ m. refl));
-    deletes_image = λ lane n v k mark e. by _ (relates_same st.sets _ (λ m. refl));
-    ticks = λ lane n mark. by _ (related_tick n);
-    begins = λ lane n all c mark e ctx. on_begin (opened lane c all) _ e refl refl refl;
-    disables = λ lane w q mark g. by _ (relates_same st.sets _ (λ m. refl));
-    gathers = λ lane q mark g. by _ (relates_followed true _ st);
-    names = λ lane w full q explicit mark g named. by _ (relates_same st.sets _ (λ m. refl));
-    starts = λ lane q mark g e img. owned_start q st g num h;
-    adds = λ lane v r q mark g e f. by _
-        (relates_same st.sets _
-        (context_map (row_changed r.number (with_volume v)) (λ x. changed_number r.number (with_volume v) x refl)
-        (λ x. changed_context r.number (with_volume v) x refl) st.sets));
-    prepares = λ lane q mark g f. by _ (relates_followed true _ st);
-    snapshots = λ lane q mark g f. by _ (relates_followed true _ st);
-    completes = λ lane q mark g. by _ (relates_followed true _ st);
-    aborts = λ lane q mark e. by _ (relates_failed (in_progress st) AsyncCancelled st);
-    ends = λ lane q mark e. on_end q AsyncCancelled e;
-    answers = λ w answer mark e. by _ (related_answer w (said_of answer));
-    steps = λ mark e. by _ (related_step mark);
-    idles = λ mark e. by _ (related_tick (idle_now st));
-  }
+  owned_next = grind (arith, by, related_write, related_revert, relates_same, related_tick, on_begin, relates_followed, owned_start, context_map, changed_number, changed_context, relates_failed, on_end, related_answer, related_step)
 
   owned_if : (b : Bool) (act : Act) → enabled s st act.event ≡ b → NoMore st (after s st act) → Owned (after s st act)
   owned_if b act e img = grind (arith, after_enabled, covered, owned_next, after_not_enabled)

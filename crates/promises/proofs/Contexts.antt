@@ -1,10 +1,10 @@
 -- What keeps the context of a set, whose session it is, and whether it has failed.
-use Rattle.std.proofs.Common.{◌≡◌, ◌∙◌, ℕ, ◌+◌, ◌==◌, suc, List, [], ◌∷◌, ◌++◌, Option, Some, None, refl, Bool, true, false, ap, sym, subst, map, find, length}
+use Rattle.std.proofs.Common.{◌≡◌, ◌∙◌, ℕ, ◌+◌, ◌==◌, List, [], ◌∷◌, ◌++◌, Option, Some, None, refl, Bool, true, false, ap, sym, subst, map, find, length}
 use Rattle.std.proofs.Common.{arith}
 use Rattle.std.specs.Prelude.{is_some, option_map, if◌then◌else◌}
 use Rattle.write_history.specs.History.{cut as history_cut}
 use Rattle.promises.proofs.Members.{same_number}
-use Rattle.promises.proofs.Words.{Context, Backup, SetOutcome, VssResult, Mark, Write, Image, History, point_in, Course, Stage, Session, stage_after}
+use Rattle.promises.proofs.Words.{Context, Backup, SetOutcome, VssResult, Mark, Write, Image, History, point_in, Course, Session}
 use Rattle.promises.proofs.Words.{agenda_ended, set_failed, State, SetRow, in_progress, row_changed, has_image, with_room_if, put, cut_set, image_made}
 use Rattle.promises.proofs.Words.{each_change, NumberedFrom, IsOfSession as IsSessionOfSet, is_early, stands, Ending, ending, row_settled, concluded, followed}
 use Rattle.promises.proofs.Words.{failed_in, number_is, Group, is_running, step_made, failure_of, failure_in}
@@ -19,20 +19,10 @@ context_in rows n = option_map (λ (r : SetRow). r.context) (find (λ (r : SetRo
 pub context_map : (f : SetRow → SetRow) → ((r : SetRow) → (f r).number ≡ r.number) → ((r : SetRow) → (f r).context ≡ r.context) → (rows : List SetRow) (n : ℕ)
     → context_in (map f rows) n ≡ context_in rows n
 context_map f num con [] n = refl
-context_map f num con (r ∷ rows) n = by_head (r.number == n) ((f r).number == n) (ap (λ k. k == n) (num r)) (context_map f num con rows n) where
-  by_head : (b c : Bool) → c ≡ b → context_in (map f rows) n ≡ context_in rows n
-      → option_map (λ (x : SetRow). x.context) (if c then Some (f r) else find (λ (x : SetRow). x.number == n) (map f rows))
-      ≡ option_map (λ (x : SetRow). x.context) (if b then Some r else find (λ (x : SetRow). x.number == n) rows)
-  by_head true true e ih = ap Some (con r)
-  by_head true false e ih = absurd cc
-  by_head false true e ih = absurd cc
-  by_head false false e ih = ih
+context_map f num con (r ∷ rows) n = grind (arith, context_map f num con rows n)
 
 pub settled_number : (o : SetOutcome) (r : SetRow) → (row_settled o r).number ≡ r.number
 settled_number o r = grind arith
-
-pub settled_context : (o : SetOutcome) (r : SetRow) → (row_settled o r).context ≡ r.context
-settled_context o r = grind arith
 
 pub changed_number : (n : ℕ) (f : SetRow → SetRow) (r : SetRow) → (f r).number ≡ r.number → (row_changed n f r).number ≡ r.number
 changed_number n f r e = grind arith
@@ -42,27 +32,11 @@ changed_context n f r e = grind arith
 
 pub context_other : (rows : List SetRow) (r : SetRow) (n : ℕ) → (r.number == n) ≡ false → context_in (rows ++ r ∷ []) n ≡ context_in rows n
 context_other [] r n e = ap (λ b. option_map (λ (x : SetRow). x.context) (if b then Some r else None)) e
-context_other (q ∷ rows) r n e = by_head (q.number == n) (context_other rows r n e) where
-  by_head : (b : Bool) → context_in (rows ++ r ∷ []) n ≡ context_in rows n
-      → option_map (λ (x : SetRow). x.context) (if b then Some q else find (λ (x : SetRow). x.number == n) (rows ++ r ∷ []))
-      ≡ option_map (λ (x : SetRow). x.context) (if b then Some q else find (λ (x : SetRow). x.number == n) rows)
-  by_head true ih = refl
-  by_head false ih = ih
+context_other (q ∷ rows) r n e = grind (arith, context_other rows r n e)
 
 pub context_new : (k : ℕ) (rows : List SetRow) (r : SetRow) → NumberedFrom k rows → r.number ≡ length rows + k → context_in (rows ++ r ∷ []) r.number ≡ Some r.context
 context_new k [] r h e = ap (λ b. option_map (λ (x : SetRow). x.context) (if b then Some r else None)) (same_number r.number)
-context_new k (q ∷ rows) r h e = by_head (q.number == r.number) (less q.number k r.number (length rows) h.0 e) (context_new (k + 1) rows r h.1 (next r.number (length rows) k e))
-  where
-    less : (a k n len : ℕ) → a ≡ k → n ≡ suc len + k → (a == n) ≡ false
-    less a k n len e f = grind arith
-
-    next : (n len k : ℕ) → n ≡ suc len + k → n ≡ len + (k + 1)
-    next n len k e = omega arith
-
-    by_head : (b : Bool) → b ≡ false → context_in (rows ++ r ∷ []) r.number ≡ Some r.context
-        → option_map (λ (x : SetRow). x.context) (if b then Some q else find (λ (x : SetRow). x.number == r.number) (rows ++ r ∷ [])) ≡ Some r.context
-    by_head true f ih = absurd cc
-    by_head false f ih = ih
+context_new k (q ∷ rows) r h e = grind (arith, context_new (k + 1) rows r h.1 (grind arith))
 
 -- ## what is kept
 
@@ -102,14 +76,8 @@ owned_still f k x next con ses img h = record {
 pub as_it_is : Keeps (λ q. q)
 as_it_is = record { set = λ q. refl; context = λ q. refl; early = λ q e. e }
 
-pub unchanged : (o : Option Session) → o ≡ option_map (λ q. q) o
-unchanged o = grind arith
-
-pub late_after : (c : Context) (stage : Stage) → is_early (stage_after c stage) ≡ true → is_early stage ≡ true
-late_after c stage e = grind arith
-
 pub at_end : Keeps agenda_ended
-at_end = record { set = λ q. refl; context = λ q. refl; early = λ q e. late_after q.context q.stage e }
+at_end = record { set = λ q. refl; context = λ q. refl; early = λ q e. grind arith }
 
 pub at_failure : (why : VssResult) → Keeps (set_failed why)
 at_failure why = record { set = λ q. refl; context = λ q. refl; early = λ q e. absurd cc }
@@ -122,13 +90,13 @@ pub record Relates (rows : List SetRow) (session : Option Session) (next : State
   pub is : next.session ≡ option_map change session
 
 pub relates_same : (rows : List SetRow) (next : State) → ((n : ℕ) → context_in next.sets n ≡ context_in rows n) → Relates rows next.session next
-relates_same rows next e = record { change = λ q. q; keeps = as_it_is; contexts = e; is = unchanged next.session }
+relates_same rows next e = record { change = λ q. q; keeps = as_it_is; contexts = e; is = grind arith }
 
 pub relates_over : (rows more : List SetRow) (session : Option Session) (next : State) → ((n : ℕ) → context_in more n ≡ context_in rows n) → Relates more session next → Relates rows session next
 relates_over rows more session next e h = record { change = h.change; keeps = h.keeps; contexts = λ n. h.contexts n ∙ e n; is = h.is }
 
 pub settled_contexts : (o : SetOutcome) (rows : List SetRow) (n : ℕ) → context_in (map (row_settled o) rows) n ≡ context_in rows n
-settled_contexts o rows n = context_map (row_settled o) (settled_number o) (settled_context o) rows n
+settled_contexts o rows n = context_map (row_settled o) (settled_number o) (grind arith) rows n
 
 pub relates_ended : (e : Ending) (x : State) → Relates x.sets x.session (concluded e x)
 relates_ended e x = grind (arith, relates_same, at_end, settled_contexts, at_failure)
@@ -155,23 +123,15 @@ made_images : (m n : ℕ) (x : History) → (m == n) ≡ false → has_image n (
 made_images m n x e h = other x.images (length x.writes) h where
   other : (images : List Image) (p : ℕ) → is_some (point_in n (images ++ record { set = m; point = p } ∷ [])) ≡ true → is_some (point_in n images) ≡ true
   other [] p h = ap (λ b. is_some (if b then Some p else None)) (sym e) ∙ h
-  other (i ∷ images) p h = by_head (i.set == n) h (other images p) where
-    by_head : (b : Bool) → is_some (if b then Some i.point else point_in n (images ++ record { set = m; point = p } ∷ [])) ≡ true
-        → (is_some (point_in n (images ++ record { set = m; point = p } ∷ [])) ≡ true → is_some (point_in n images) ≡ true)
-        → is_some (if b then Some i.point else point_in n images) ≡ true
-    by_head true h ih = refl
-    by_head false h ih = ih h
+  other (i ∷ images) p h = grind (arith, other images p)
 
 pub cut_contexts : (o : Option SetRow) (st : State) (n : ℕ) → context_in (cut_set o st).sets n ≡ context_in st.sets n
 cut_contexts o st n = grind (arith, context_map, changed_number, changed_context)
 
-pub made_by : (p : Option Session) (o : SetOutcome) (r : SetRow) → IsSessionOfSet p o (Some r) → HasMade p r.number
-made_by p o r h = grind arith
-
 pub owned_made : (o : Option SetRow) (u : Option ℕ) (st : State) → in_progress st ≡ o → IsSessionOfSet st.session st.course.outcome (in_progress st) → Owned st → Owned (image_made o u st)
 owned_made (Some r) (Some u) st e k h = record { own = λ n v c g. by_number n v (r.number == n) refl c g; same = h.same; early = h.early } where
   by_number : (n v : ℕ) (b : Bool) → (r.number == n) ≡ b → context_in st.sets n ≡ Some Backup → stands (image_made (Some r) (Some u) st) n v ≡ true → HasMade st.session n
-  by_number n v true i c g = subst (HasMade st.session) (number_is r.number n i) (made_by st.session st.course.outcome r (subst (IsSessionOfSet st.session st.course.outcome) e k))
+  by_number n v true i c g = subst (HasMade st.session) (number_is r.number n i) (grind (arith, subst (IsSessionOfSet st.session st.course.outcome) e k))
   by_number n v false i c g =
       h.own n v c (each_change (λ x y. has_image n y ≡ true → has_image n x ≡ true) (λ x j. j) (history_cut r.number) (λ x j. made_images r.number n x i j) u st.volumes v g)
 owned_made _ _ st e k h = h
@@ -184,13 +144,7 @@ failure_at rows n = failure_in (find (λ (r : SetRow). r.number == n) rows)
 pub failure_map : (f : SetRow → SetRow) → ((r : SetRow) → (f r).number ≡ r.number) → ((r : SetRow) → failure_of (f r).result ≡ failure_of r.result)
     → (rows : List SetRow) (n : ℕ) → failure_at (map f rows) n ≡ failure_at rows n
 failure_map f num res [] n = refl
-failure_map f num res (r ∷ rows) n = by_head (r.number == n) ((f r).number == n) (ap (λ k. k == n) (num r)) (failure_map f num res rows n) where
-  by_head : (b c : Bool) → c ≡ b → failure_at (map f rows) n ≡ failure_at rows n
-      → failure_in (if c then Some (f r) else find (λ (x : SetRow). x.number == n) (map f rows)) ≡ failure_in (if b then Some r else find (λ (x : SetRow). x.number == n) rows)
-  by_head true true e ih = res r
-  by_head true false e ih = absurd cc
-  by_head false true e ih = absurd cc
-  by_head false false e ih = ih
+failure_map f num res (r ∷ rows) n = grind (arith, failure_map f num res rows n)
 
 pub running_calm : (o : SetOutcome) → is_running o ≡ true → failure_of o ≡ None
 running_calm o e = grind arith
@@ -201,8 +155,5 @@ settled_calm p e r = grind arith
 pub changed_result : (n : ℕ) (f : SetRow → SetRow) (r : SetRow) → (f r).result ≡ r.result → failure_of (row_changed n f r).result ≡ failure_of r.result
 changed_result n f r e = grind arith
 
-pub failures_cut : (o : Option SetRow) (st : State) (n : ℕ) → failure_at (cut_set o st).sets n ≡ failure_at st.sets n
-failures_cut o st n = grind (arith, failure_map, changed_number, changed_result)
-
 pub failures_made : (g : Option Group) (v : Option ℕ) (st : State) (n : ℕ) → failure_at (step_made g v st).sets n ≡ failure_at st.sets n
-failures_made g v st n = grind (arith, failures_cut)
+failures_made g v st n = grind (arith, failure_map, changed_number, changed_result)

@@ -2,18 +2,17 @@
 use Rattle.promises.proofs.Words.{Order, VssResult, Said, Lost, WriterRow, is_ok, row_after, row_aborted, Group, Kind, Limit, Member, Agenda, Open, order_of}
 use Rattle.promises.proofs.Words.{order_now, open_order, is_among, groups_left, left, waits_now, Running as RunningLimit, first_hold, hold_runs, running_at}
 use Rattle.promises.proofs.Words.{running_limits, spent_of, none_and_some, IsSpentHere, spent_here, has_failed, none_settled as calm_settled, some_same}
-use Rattle.promises.proofs.Words.{SetOutcome, Gather, Prepare, Snapshot, Complete, places, is_working, freeze_runs, IsOfSession, IsAgendaOf, Session, State}
+use Rattle.promises.proofs.Words.{SetOutcome, Prepare, Snapshot, is_working, freeze_runs, IsOfSession, IsAgendaOf, Session, State}
 use Rattle.promises.proofs.Words.{SetRow, ending, followed, course-concluded}
 use Rattle.std.proofs.Common.{◌≡◌, ◌∙◌, ℕ, ◌+◌, zero, suc, List, [], ◌∷◌, ◌⊎◌, Option, Some, None, refl, Bool, true, false, ap, sym, subst, inl, inr, map}
 use Rattle.std.proofs.Common.{arith}
 use Rattle.std.specs.Prelude.{◌&&◌, not, slice_get, is_some}
 use Rattle.set_agenda.specs.declared.limit.Limit.TheVariants.{Hold as HoldLimit, Freeze as FreezeLimit, Answer as AnswerLimit}
-use Rattle.set_agenda.specs.Course.{Course, posted, failed as course_failed, rows_where, row_if, is_member, settled_in, settled, begun, told, is_decisive}
+use Rattle.set_agenda.specs.Course.{Course, posted, failed as course_failed, rows_where, row_if, is_member, settled, begun, told, is_decisive}
 use Rattle.set_agenda.specs.Course.{decided, answered_to, answered as course_answered, worked, stepped as course_stepped, freeze_limit, limits_now, lost_to}
 use Rattle.set_agenda.specs.Course.{lost, fails_set, lost_decided, treated_as, treated, timed as course_timed}
 use Rattle.promises.proofs.Limits.{spent_holds}
 use Rattle.promises.proofs.Members.{one_on}
-use Rattle.promises.proofs.OpenGroup.{every}
 
 -- ## the agendas that make a set: while one runs, a set is in progress. Only they have orders that decide, steps, and limits beside that of an answer
 
@@ -23,11 +22,6 @@ abbrev pub makes_a_set : Kind → Bool
 makes_a_set Prepare = true
 makes_a_set Snapshot = true
 makes_a_set _ = false
-
--- a group that no agenda beside those of a set has
-pub of_kind : (test : Group → Bool) (k : Kind) (a : Agenda) (o : Open) (os : List Open) → a.kind ≡ k → every (λ q. not (test q.group)) (places Gather) ≡ true
-    → every (λ q. not (test q.group)) (places Complete) ≡ true → groups_left a ≡ o ∷ os → test o.place.group ≡ true → makes_a_set k ≡ true
-of_kind test k a o os e f g h i = grind arith
 
 abbrev pub IsBusy : Option Agenda → Type 0
 IsBusy None = ⊥
@@ -46,11 +40,7 @@ pub frozen_now : (now f : ℕ) (a : Agenda) (o : Open) (os : List Open) (l : Run
 frozen_now now f a o os l e not_answer = grind arith
 
 pub busy_limit : (now f : ℕ) (x : Option Agenda) (l : RunningLimit) → spent_of now (running_limits f x) ≡ Some l → (l.limit ≡ AnswerLimit → ⊥) → IsBusy x
-busy_limit now f None l e k = none_and_some None l refl e
-busy_limit now f (Some a) l e k = at_list (groups_left a) refl e where
-  at_list : (os : List Open) → groups_left a ≡ os → spent_of now (running_at f a os) ≡ Some l → makes_a_set a.kind ≡ true
-  at_list [] g i = none_and_some None l refl i
-  at_list (o ∷ os) g i = of_kind freeze_runs a.kind a o os refl refl refl g (frozen_now now f a o os l i k)
+busy_limit now f x l e k = grind (arith, none_and_some, frozen_now)
 
 -- ## while an agenda makes a set, one is in progress
 
@@ -66,9 +56,7 @@ course_followed ran c x = course-concluded (ending x.course.outcome c.outcome ra
 row_where : (f : WriterRow → WriterRow) (test : ℕ → Bool) (k : ℕ) (rows : List WriterRow) (w : ℕ) (r : WriterRow) → slice_get rows w ≡ Some r
     → slice_get (rows_where f test k rows) w ≡ Some (row_if (test (k + w)) f r)
 row_where f test k [] w r e = absurd cc
-row_where f test k (x ∷ rows) zero r e = ap (λ n. Some (row_if (test n) f x)) (none_more k) ∙ ap (λ y. Some (row_if (test (k + 0)) f y)) (some_same x r e) where
-  none_more : (n : ℕ) → n ≡ n + 0
-  none_more n = omega arith
+row_where f test k (x ∷ rows) zero r e = grind (arith, some_same)
 row_where f test k (x ∷ rows) (suc w) r e = row_where f test (k + 1) rows w r e ∙ ap (λ n. Some (row_if (test n) f r)) (one_on k w)
 
 -- ## rows
@@ -89,9 +77,7 @@ same_rows rows w r e = e
 
 pub rows_where_are : (f : WriterRow → WriterRow) (test : ℕ → Bool) (say : ℕ → WriterRow → WriterRow) (rows more : List WriterRow) → Becomes say rows more
     → Becomes (λ w r. row_if (test w) f (say w r)) rows (rows_where f test 0 more)
-rows_where_are f test say rows more h w r e = row_where f test 0 more w (say w r) (h w r e) ∙ ap (λ n. Some (row_if (test n) f (say w r))) (none_less w) where
-  none_less : (a : ℕ) → 0 + a ≡ a
-  none_less a = omega arith
+rows_where_are f test say rows more h w r e = row_where f test 0 more w (say w r) (h w r e) ∙ ap (λ n. Some (row_if (test n) f (say w r))) (omega arith)
 
 pub rows_map_are : (f : WriterRow → WriterRow) (say : ℕ → WriterRow → WriterRow) (rows more : List WriterRow) → Becomes say rows more → Becomes (λ w r. f (say w r)) rows (map f more)
 rows_map_are f say rows more h w r e = mapped more w (say w r) (h w r e) where
@@ -121,12 +107,9 @@ module _ (say : ℕ → WriterRow → WriterRow) where
   unfolding posted
   comes_posted b prior c d h = grind arith
 
-  stay_settled_in : (x : Option Agenda) (c d : Course) → Becomes say c.rows d.rows → Becomes say c.rows (settled_in x d).rows
-  stay_settled_in x c d h = grind arith
-
   stay_settled : (c d : Course) → Becomes say c.rows d.rows → Becomes say c.rows (settled d).rows
   unfolding settled
-  stay_settled c d h = stay_settled_in d.agenda c d h
+  stay_settled c d h = grind arith
 
   pub stay_begun : (k : Kind) (ms : List Member) (vs : List ℕ) (now : ℕ) (c d : Course) → Becomes say c.rows d.rows → Becomes say c.rows (begun k ms vs now d).rows
   unfolding begun
@@ -207,8 +190,7 @@ no_hold_asks : (now f : ℕ) (x : Option Agenda) (l : RunningLimit) (o : Order) 
 no_hold_asks now f None l o e k i = none_and_some None l refl e
 no_hold_asks now f (Some a) l o e k i = at_list (groups_left a) e i where
   at_list : (os : List Open) → spent_of now (running_at f a os) ≡ Some l → order_now os ≡ Some o → ⊥
-  at_list [] e i = none_and_some None l refl e
-  at_list (x ∷ os) e i = steps_ask_nobody x.place.group o (holds_work now f a x os l e k) i
+  at_list os e i = grind (arith, none_and_some, steps_ask_nobody, holds_work)
 
 stay_lost_to : (x : Option Order) (now : ℕ) (c : Course) → Becomes (say_to x Lost (waits_now (left c.agenda))) c.rows (lost_to x now c).rows
 stay_lost_to x now c = grind (arith, same_rows, stay_told)
@@ -219,9 +201,6 @@ members_lost_to x now c = grind (arith, members_told)
 outcome_told : (o : Order) (said : Said) (now : ℕ) (ws : List ℕ) (c : Course) → (told o said now ws c).outcome ≡ c.outcome
 unfolding told
 outcome_told o said now ws c = refl
-
-outcome_lost_to : (x : Option Order) (now : ℕ) (c : Course) → (lost_to x now c).outcome ≡ c.outcome
-outcome_lost_to x now c = grind (arith, outcome_told)
 
 abbrev now_lost : ℕ → Course → Course
 now_lost now c = lost_to (order_now (left c.agenda)) now c
@@ -238,13 +217,10 @@ lost_by (Some l) c w r = all_lost c w r
 over_lost : (b : Bool) (now : ℕ) (c : Course) → fails_set (order_now (left c.agenda)) ≡ b → PassesOrFails (all_lost c) c (lost_decided b (lost now c))
 over_lost true now c e = inr
     (fails_by (all_lost c) _ c (now_lost now c) (stay_lost_to (order_now (left c.agenda)) now c) (members_lost_to (order_now (left c.agenda)) now c)
-    (busy_by (order_now (left c.agenda)) refl e)) where
-      busy_by : (x : Option Order) → order_now (left c.agenda) ≡ x → fails_set x ≡ true → IsBusy c.agenda
-      busy_by None f g = absurd cc
-      busy_by (Some o) f g = busy_order c.agenda o f g
+    (grind (arith, busy_order)))
 over_lost false now c e = inl (record {
   stay = stay_settled (all_lost c) c (now_lost now c) (stay_lost_to (order_now (left c.agenda)) now c);
-  calm = λ f. calm_settled (now_lost now c) (ap has_failed (outcome_lost_to (order_now (left c.agenda)) now c) ∙ f);
+  calm = λ f. calm_settled (now_lost now c) (ap has_failed (grind (arith, outcome_told)) ∙ f);
 })
 
 over_treated_as : (x : Limit) (now : ℕ) (c : Course) (l : RunningLimit) → spent_of now (limits_now c) ≡ Some l → l.limit ≡ x → PassesOrFails (all_lost c) c (treated_as x now c)

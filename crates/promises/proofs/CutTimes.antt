@@ -9,12 +9,11 @@ use Rattle.promises.proofs.KeptCopies.{earlier, overwritten_along, since_cut}
 use Rattle.promises.proofs.Replies.{point_of, at_the_cut}
 use Rattle.promises.proofs.Words.{number_is, true_not_false, SetOutcome, Mark, open_group, Plan, Event, State, SetRow, in_progress, row_changed, left_now, Act}
 use Rattle.promises.proofs.Words.{after, state, state-append, cuts, or_cut, cut-append, both, after_cut, not_cut_yet, orderly, row_running, Course}
-use Rattle.promises.proofs.Words.{stepped as course_stepped, Ending, ending, row_settled, runs, concluded, followed, cut_set, with_volume, with_cut, row_cut}
-use Rattle.promises.proofs.Words.{is_provider, is_cut_group, is_set, is_cut_of, cut, Change, StartsSet, AddsVolume, IsCutAt, apply, IsCut, Comes, by_changes}
-use Rattle.promises.proofs.Words.{by_last, Group, next_volume, Provider, step_reply, reply, event_reply, CutsAtTheStep, is_cut_reply, is_number, range_with_len}
-use Rattle.promises.proofs.Words.{AreInTime, images_in_time, is_overwritten, Write, Image, point_in, named, names, used_by, writes_since, blocks_of, Line}
-use Rattle.promises.proofs.Words.{PropertiesOf, Kept, kept_of, kept_image, row_of, history_of, properties, row_number, TellsTheImage, PropertiesTell, some_same}
-use Rattle.promises.proofs.Words.{overwritten}
+use Rattle.promises.proofs.Words.{stepped as course_stepped, row_settled, runs, followed, cut_set, with_volume, row_cut, is_provider, is_cut_group, is_set}
+use Rattle.promises.proofs.Words.{is_cut_of, cut, Change, StartsSet, AddsVolume, IsCutAt, apply, Comes, by_changes, by_last, Provider, reply}
+use Rattle.promises.proofs.Words.{event_reply, CutsAtTheStep, is_cut_reply, is_number, range_with_len, AreInTime, images_in_time, is_overwritten, Write, Image}
+use Rattle.promises.proofs.Words.{point_in, named, names, used_by, writes_since, blocks_of, Line, PropertiesOf, Kept, kept_of, kept_image, row_of, history_of}
+use Rattle.promises.proofs.Words.{properties, row_number, TellsTheImage, PropertiesTell, some_same, overwritten}
 
 -- ## The row of a set that was cut has the clock at its cut: only the Cut step writes it, and it comes once.
 
@@ -26,36 +25,12 @@ time_in rows n = option_map (λ (r : SetRow). r.cut_at) (find (λ (r : SetRow). 
 time_map : (f : SetRow → SetRow) → ((r : SetRow) → (f r).number ≡ r.number) → (n : ℕ) → ((r : SetRow) → (r.number == n) ≡ true → (f r).cut_at ≡ r.cut_at)
     → (rows : List SetRow) → time_in (map f rows) n ≡ time_in rows n
 time_map f num n times [] = refl
-time_map f num n times (r ∷ rows) = by_head (r.number == n) ((f r).number == n) refl (ap (λ k. k == n) (num r)) (time_map f num n times rows) where
-  by_head : (b c : Bool) → (r.number == n) ≡ b → c ≡ (r.number == n) → time_in (map f rows) n ≡ time_in rows n
-      → option_map (λ (x : SetRow). x.cut_at) (if c then Some (f r) else find (λ (x : SetRow). x.number == n) (map f rows))
-      ≡ option_map (λ (x : SetRow). x.cut_at) (if b then Some r else find (λ (x : SetRow). x.number == n) rows)
-  by_head true true e g ih = ap Some (times r e)
-  by_head true false e g ih = absurd (differ (r.number == n) e g) where
-    differ : (d : Bool) → d ≡ true → false ≡ d → ⊥
-    differ true e g = cc
-    differ false e g = cc
-  by_head false true e g ih = absurd (differ (r.number == n) e g) where
-    differ : (d : Bool) → d ≡ false → true ≡ d → ⊥
-    differ true e g = cc
-    differ false e g = cc
-  by_head false false e g ih = ih
-
-settled_time : (o : SetOutcome) (r : SetRow) → (row_settled o r).cut_at ≡ r.cut_at
-settled_time o r = grind arith
-
-added_time : (m v : ℕ) (r : SetRow) → (row_changed m (with_volume v) r).cut_at ≡ r.cut_at
-added_time m v r = grind arith
+time_map f num n times (r ∷ rows) = grind (arith, time_map f num n times rows)
 
 -- a set that is there stays, where another is started
 time_more : (rows : List SetRow) (r : SetRow) (n : ℕ) (t : Option ℕ) → time_in rows n ≡ Some t → time_in (rows ++ r ∷ []) n ≡ Some t
 time_more [] r n t e = absurd cc
-time_more (q ∷ rows) r n t e = by_head (q.number == n) e (time_more rows r n t) where
-  by_head : (b : Bool) → option_map (λ (x : SetRow). x.cut_at) (if b then Some q else find (λ (x : SetRow). x.number == n) rows) ≡ Some t
-      → (time_in rows n ≡ Some t → time_in (rows ++ r ∷ []) n ≡ Some t)
-      → option_map (λ (x : SetRow). x.cut_at) (if b then Some q else find (λ (x : SetRow). x.number == n) (rows ++ r ∷ [])) ≡ Some t
-  by_head true e ih = e
-  by_head false e ih = ih e
+time_more (q ∷ rows) r n t e = grind (arith, time_more rows r n t)
 
 -- the cut of another set
 time_cut_other : (m now n : ℕ) (rows : List SetRow) → (m == n) ≡ false → time_in (map (row_cut m now) rows) n ≡ time_in rows n
@@ -64,13 +39,7 @@ time_cut_other m now n rows e = grind (arith, time_map, changed_number, number_i
 -- its own
 time_cut_own : (n now : ℕ) (rows : List SetRow) (q : SetRow) → find (λ (r : SetRow). r.number == n) rows ≡ Some q → time_in (map (row_cut n now) rows) n ≡ Some (Some now)
 time_cut_own n now [] q e = absurd cc
-time_cut_own n now (r ∷ rows) q e = by_head (r.number == n) refl e (time_cut_own n now rows q) where
-  by_head : (b : Bool) → (r.number == n) ≡ b → (if b then Some r else find (λ (x : SetRow). x.number == n) rows) ≡ Some q
-      → (find (λ (x : SetRow). x.number == n) rows ≡ Some q → time_in (map (row_cut n now) rows) n ≡ Some (Some now)) → option_map (λ (x : SetRow). x.cut_at)
-      (if (if b then with_cut now r else r).number == n then Some (if b then with_cut now r else r)
-      else find (λ (x : SetRow). x.number == n) (map (row_cut n now) rows)) ≡ Some (Some now)
-  by_head true f e ih = ap (λ c. option_map (λ (x : SetRow). x.cut_at) (if c then Some (with_cut now r) else find (λ (x : SetRow). x.number == n) (map (row_cut n now) rows))) f
-  by_head false f e ih = ap (λ c. option_map (λ (x : SetRow). x.cut_at) (if c then Some r else find (λ (x : SetRow). x.number == n) (map (row_cut n now) rows))) f ∙ ih e
+time_cut_own n now (r ∷ rows) q e = grind (arith, time_cut_own n now rows q)
 
 -- ## what keeps it
 
@@ -78,29 +47,18 @@ abbrev SameTimes : State → State → Type 0
 SameTimes st x = (n : ℕ) → time_in x.sets n ≡ time_in st.sets n
 
 times_settled : (o : SetOutcome) (rows : List SetRow) (n : ℕ) → time_in (map (row_settled o) rows) n ≡ time_in rows n
-times_settled o rows n = time_map (row_settled o) (settled_number o) n (λ r e. settled_time o r) rows
-
-times_ended : (e : Ending) (x : State) → SameTimes x (concluded e x)
-times_ended e x n = grind (arith, times_settled)
+times_settled o rows n = time_map (row_settled o) (settled_number o) n (λ r e. grind arith) rows
 
 times_followed : (ran : Bool) (c : Course) (x : State) → SameTimes x (followed ran c x)
 unfolding followed
-times_followed ran c x n = times_ended (ending x.course.outcome c.outcome ran c.agenda) (record x { course = c }) n
+times_followed ran c x n = grind (arith, times_settled)
 
 module _ (s : Plan) (st : State) (n : ℕ) (t : Option ℕ) where
-  -- an act that is not the Cut step of set n
-  cut_other : (e : Event) (m : Mark) (k : ℕ) → is_cut_of n st (record { event = e; mark = m }) ≡ false → IsCut e st k → (k == n) ≡ false
-  cut_other e m k f i = apart (is_provider e) (is_cut_group (open_group (left_now st))) (k == n) i.provider i.group
-      (ap (λ j. (is_provider e && is_cut_group (open_group (left_now st))) && (j == n)) i.number ∙ ap (λ o. (is_provider e && is_cut_group (open_group (left_now st))) && is_set n o) (sym i.found) ∙ f)
-    where
-      apart : (a b c : Bool) → a ≡ true → b ≡ true → ((a && b) && c) ≡ false → c ≡ false
-      apart a b c g h f = grind arith
-
   keeps_time : (e : Event) (m : Mark) → is_cut_of n st (record { event = e; mark = m }) ≡ false → (c : Change) (x : State) → Comes s e m st x c
       → time_in x.sets n ≡ Some t → time_in (apply x c).sets n ≡ Some t
   keeps_time e m f (StartsSet r) x i h = time_more x.sets r n t h
-  keeps_time e m f (AddsVolume k v) x i h = time_map (row_changed k (with_volume v)) (λ r. changed_number k (with_volume v) r refl) n (λ r g. added_time k v r) x.sets ∙ h
-  keeps_time e m f (IsCutAt k now) x i h = time_cut_other k now n x.sets (cut_other e m k f i.0) ∙ h
+  keeps_time e m f (AddsVolume k v) x i h = time_map (row_changed k (with_volume v)) (λ r. changed_number k (with_volume v) r refl) n (λ r g. grind arith) x.sets ∙ h
+  keeps_time e m f (IsCutAt k now) x i h = time_cut_other k now n x.sets (grind (arith, i.0)) ∙ h
   keeps_time e m f (Settles o) x i h = times_settled o x.sets n ∙ h
   keeps_time e m f _ x i h = h
 
@@ -112,12 +70,6 @@ module _ (s : Plan) (st : State) (n : ℕ) (t : Option ℕ) where
 module _ (s : Plan) (so_far : List Act) (act : Act) (n : ℕ) where
   abbrev st : State
   st = state s so_far
-
-  some_acts : (a b : List Act) → Some a ≡ Some b → a ≡ b
-  some_acts a b e = cc
-
-  parts : is_cut_of n st act ≡ true → (is_provider act.event ≡ true) × ((is_cut_group (open_group (left_now st)) ≡ true) × (is_set n (in_progress st) ≡ true))
-  parts c = grind (arith, both)
 
   -- the Cut step of set n
   cut_now : (o : Option SetRow) → in_progress st ≡ o → is_set n o ≡ true → is_cut_group (open_group (left_now st)) ≡ true → is_provider act.event ≡ true
@@ -136,7 +88,7 @@ module _ (s : Plan) (so_far : List Act) (act : Act) (n : ℕ) where
 
   time_next : (o : Option (List Act)) (b : Bool) (before : List Act) → cut s n so_far ≡ o → is_cut_of n st act ≡ b → or_cut o (cut_if b so_far None) ≡ Some before
       → ((past : List Act) → cut s n so_far ≡ Some past → time_in st.sets n ≡ Some (Some (state s past).clock)) → time_in (after s st act).sets n ≡ Some (Some (state s before).clock)
-  time_next o b before e c f h = grind (arith, parts, cut_before, some_acts, time_stays, cut_now)
+  time_next o b before e c f h = grind (arith, both, cut_before, time_stays, cut_now)
 
 abbrev Timed : Plan → List Act → Type 0
 Timed s so_far = (n : ℕ) (before : List Act) → cut s n so_far ≡ Some before → time_in (state s so_far).sets n ≡ Some (Some (state s before).clock)
@@ -150,18 +102,9 @@ cut_time s so_far n before e = by_last (Timed s) (timed_next s) (λ m b f. absur
 
 -- ## A set is cut in the act of its Cut step.
 
-same_group : (g : Option Group) (v : Option ℕ) (mark : Mark) → is_cut_reply (step_reply g v mark) ≡ is_cut_group g
-same_group g v mark = grind arith
-
-same_set : (n : ℕ) (o : Option SetRow) → is_number n o ≡ is_set n o
-same_set n o = grind arith
-
 module _ (s : Plan) (so_far : List Act) (act : Act) (n : ℕ) where
   abbrev st_at_cut : State
   st_at_cut = state s so_far
-
-  not_cut : is_provider act.event ≡ false → cut s n (so_far ++ act ∷ []) ≡ cut s n so_far
-  not_cut e = grind (arith, cut-append)
 
   stepped : act.event ≡ Provider → cut s n (so_far ++ act ∷ []) ≡ (if is_cut_reply (reply s st_at_cut act) && is_number n (in_progress st_at_cut) then Some so_far else cut s n so_far)
   stepped e =
@@ -169,19 +112,14 @@ module _ (s : Plan) (so_far : List Act) (act : Act) (n : ℕ) where
       ∙ ap (λ (x : Event). or_cut (cut s n so_far) (cut_if (is_provider x && is_cut_group (open_group (left_now st_at_cut)) && is_set n (in_progress st_at_cut)) so_far None)) e
       ∙ by_step (is_cut_group (open_group (left_now st_at_cut))) (is_set n (in_progress st_at_cut)) (cut s n so_far) refl refl refl
       ∙ ap (λ b. if b && is_set n (in_progress st_at_cut) then Some so_far else cut s n so_far)
-      (sym (same_group (open_group (left_now st_at_cut)) (next_volume (left_now st_at_cut)) act.mark) ∙ sym (ap (λ (x : Event). is_cut_reply (event_reply s st_at_cut x act.mark)) e))
-      ∙ ap (λ b. if is_cut_reply (reply s st_at_cut act) && b then Some so_far else cut s n so_far) (sym (same_set n (in_progress st_at_cut))) where
+      (sym (grind arith) ∙ sym (ap (λ (x : Event). is_cut_reply (event_reply s st_at_cut x act.mark)) e))
+      ∙ ap (λ b. if is_cut_reply (reply s st_at_cut act) && b then Some so_far else cut s n so_far) (sym (grind arith)) where
         by_step : (a b : Bool) (o : Option (List Act)) → is_cut_group (open_group (left_now st_at_cut)) ≡ a → is_set n (in_progress st_at_cut) ≡ b → cut s n so_far ≡ o
             → or_cut o (cut_if (true && a && b) so_far None) ≡ (if a && b then Some so_far else o)
-        by_step true true (Some before) e f g = absurd (cut_before s so_far act n (in_progress st_at_cut) before refl f e g)
-        by_step true true None e f g = refl
-        by_step true false (Some before) e f g = refl
-        by_step true false None e f g = refl
-        by_step false b (Some before) e f g = refl
-        by_step false b None e f g = refl
+        by_step a b o e f g = grind (arith, cut_before)
 
 pub cuts_at_the_step : (s : Plan) (so_far : List Act) (act : Act) → CutsAtTheStep s so_far act
-cuts_at_the_step s so_far act = grind (arith, stepped, not_cut)
+cuts_at_the_step s so_far act = grind (arith, stepped, cut-append)
 
 -- ## `properties` tells a kept image: its set's context, the clock at the cut, and the slots that it uses.
 

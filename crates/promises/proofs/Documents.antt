@@ -1,18 +1,15 @@
 -- The component document lists what the session has named, and what comes with it.
-use Rattle.std.proofs.Common.{◌≡◌, ◌∙◌, ℕ, ◌+◌, ◌==◌, zero, suc, List, [], ◌∷◌, ◌++◌, Option, Some, None, refl, Bool, true, false, ap, sym, subst, map, length, fold, arith}
-use Rattle.std.specs.Prelude.{◌&&◌, ◌||◌, not, nat_lt, if◌then◌else◌, slice_get}
-use Rattle.promises.proofs.Words.{list_any, bytes_eq, length-map, compact_text, AsyncCancelled, Mark, said_of, Part, Meta, full_name, is_ancestor}
-use Rattle.promises.proofs.Words.{row_gathered, is_among, Course, begun, members_from, prepared as course_prepared, Pair, Named, AllOf, is_pair, has_pair}
-use Rattle.promises.proofs.Words.{with_pair, found_from, found_in, Names, naming_if, naming_found, naming_of, is_taker, takers, has_named_ancestor, choice_if}
-use Rattle.promises.proofs.Words.{choices_from, choices_of, chosen_from, is_named, Mode, Components, All, Session, mode_of, Op, Target, target_of, Plan}
-use Rattle.promises.proofs.Words.{WriterPlan, token, Event, Line, Reply, DocumentOf, State, start, in_progress, Replied, write, followed, failed, Act}
-use Rattle.promises.proofs.Words.{enabled, idle_now, after, state, named_known_components, is_accepted, is_first, is_part, line_names, event_names, names_if}
-use Rattle.promises.proofs.Words.{names_from, has_named, is_below, parts_listed, writer_listed, writers_listed, TellsDocument, progress, is_chosen, is_unfit}
-use Rattle.promises.proofs.Words.{choosing, is_writer, ChangesNothing, Covers, told_covered, after_not_enabled, false_from_ne_true, choices_data, document_of}
-use Rattle.promises.proofs.Words.{document_text, is_known, meta_if, known_metas, selected, volumes_of, start_set, closed, true_not_false}
+use Rattle.std.proofs.Common.{◌≡◌, ◌∙◌, ℕ, ◌+◌, ◌==◌, zero, suc, List, [], ◌∷◌, Option, Some, None, refl, Bool, true, false, ap, sym, subst, map, length, fold, arith}
+use Rattle.std.specs.Prelude.{◌&&◌, ◌||◌, not, if◌then◌else◌, slice_get}
+use Rattle.promises.proofs.Words.{list_any, length-map, compact_text, AsyncCancelled, Mark, said_of, Part, Meta, is_ancestor, row_gathered, is_among, Course}
+use Rattle.promises.proofs.Words.{begun, members_from, prepared as course_prepared, Pair, Named, AllOf, is_pair, has_pair, found_from, found_in, Names}
+use Rattle.promises.proofs.Words.{naming_if, naming_found, naming_of, is_taker, takers, has_named_ancestor, choices_from, chosen_from, Mode}
+use Rattle.promises.proofs.Words.{Components, All, Session, mode_of, Plan, WriterPlan, token, Event, State, start, in_progress, Replied, write, followed}
+use Rattle.promises.proofs.Words.{failed, Act, enabled, idle_now, after, state, named_known_components, is_first, is_part, event_names, names_if, names_from}
+use Rattle.promises.proofs.Words.{has_named, is_below, parts_listed, writers_listed, TellsDocument, progress, is_chosen, is_unfit, choosing}
+use Rattle.promises.proofs.Words.{is_writer, Covers, told_covered, after_not_enabled, false_from_ne_true, choices_data, document_of, document_text, is_known}
+use Rattle.promises.proofs.Words.{known_metas, selected, volumes_of, start_set, closed, true_not_false}
 use Rattle.set_agenda.specs.declared.kind.Kind.TheVariants as kind
-use Rattle.requestor.specs.declared.session_call.SessionCall.TheVariants as call
-use Rattle.scenario.specs.declared.op.Op.TheVariants as op
 use Rattle.vss_model.specs.Sessions.{known_from}
 use Rattle.promises.proofs.Accepted.{tells, line_reply}
 use Rattle.promises.proofs.Members.{is_selected, taker_is, SameChoice, mode_in, same_choice, same_course, on_begun, on_followed, on_write, on_revert, on_ticked}
@@ -30,26 +27,16 @@ record IsOfPlan (o : Option WriterPlan) (m : Meta) : Type 0 where
 
 of_plan : (s : Plan) (st : State) (k : ℕ) (ps : List WriterPlan) (u : ℕ) (m : Meta) → slice_get (known_from s st k ps) u ≡ Some (Some m) → IsOfPlan (slice_get ps u) m
 of_plan s st k [] u m e = absurd cc
-of_plan s st k (p ∷ ps) zero m e = by_known (is_known s st k) e where
-  by_known : (b : Bool) → Some (meta_if b p.meta) ≡ Some (Some m) → IsOfPlan (Some p) m
-  by_known true f = record { plan = p; is = refl; meta = cc }
-  by_known false f = absurd cc
+of_plan s st k (p ∷ ps) zero m e = grind arith
 of_plan s st k (p ∷ ps) (suc u) m e = of_plan s st (k + 1) ps u m e
 
 first_is : (name : List ℕ) (i j : ℕ) (ps : List Part) (f : _) → found_from name j ps ≡ Some f → is_first name i j ps ≡ (f.component == i)
 first_is name i j [] f e = absurd cc
-first_is name i j (p ∷ ps) f e = by_name (bytes_eq (full_name p) name) e (first_is name i (j + 1) ps f) where
-  by_name : (b : Bool) → (if b then Some (record { component = j; selectable = p.selectable }) else found_from name (j + 1) ps) ≡ Some f
-      → (found_from name (j + 1) ps ≡ Some f → is_first name i (j + 1) ps ≡ (f.component == i))
-      → (if b then j == i else is_first name i (j + 1) ps) ≡ (f.component == i)
-  by_name true g ih = let e : f ≡ record { component = j; selectable = p.selectable } = cc in rw e refl
-  by_name false g ih = ih g
+first_is name i j (p ∷ ps) f e = grind (arith, first_is name i (j + 1) ps f)
 
 module _ (w i : ℕ) where
   pair_if : (q : Pair) (ps new : List Pair) (a b : Bool) → naming_if a b q ps ≡ Names new → has_pair new w i ≡ (has_pair ps w i || is_pair w i q)
-  pair_if q ps new false b e = absurd cc
-  pair_if q ps new true true e = absurd cc
-  pair_if q ps new true false e = let same : with_pair q ps ≡ new = cc in ap (λ x. has_pair x w i) (sym same) ∙ pair_added (is_pair w i) q ps
+  pair_if q ps new a b e = grind (arith, pair_added)
 
   pair_found : (u : ℕ) (name : List ℕ) (parts : List Part) (ps new : List Pair) → naming_found u (found_in name parts) ps ≡ Names new
       → has_pair new w i ≡ (has_pair ps w i || ((u == w) && is_first name i 0 parts))
@@ -75,12 +62,6 @@ module _ (w i : ℕ) where
 abbrev NamesSo : ℕ → ℕ → State → Bool → Type 0
 NamesSo w i st c = (q : Session) → st.session ≡ Some q → has_pair st.explicit w i ≡ c
 
-names_nothing : (s : Plan) (w i : ℕ) (c : Bool) (o : Op) (said : Reply) → ChangesNothing o said → line_names s w i o said c ≡ c
-names_nothing s w i c o said g = grind arith
-
-write_names : (s : Plan) (w i : ℕ) (c : Bool) (o : Op) (t : Target) (said : Reply) → target_of o ≡ Some t → line_names s w i o said c ≡ c
-write_names s w i c o t said e = grind arith
-
 module _ (s : Plan) (w i : ℕ) (st : State) (c : Bool) (h : NamesSo w i st c) where
   abbrev Next : Event → Mark → Replied → Type 0
   Next event mark x = NamesSo w i x.1 (event_names s w i event x.0 c)
@@ -105,8 +86,8 @@ module _ (s : Plan) (w i : ℕ) (st : State) (c : Bool) (h : NamesSo w i st c) w
 
   follows : Covers Next s st
   follows = record {
-    stays = λ lane o mark said e f. subst (NamesSo w i st) (sym (names_nothing s w i c o said f)) h;
-    writes = λ lane o v u mark e f. subst (NamesSo w i (write s v u mark st).1) (sym (write_names s w i c o _ (write s v u mark st).0 e)) (same (write s v u mark st).1 (on_write s v u mark st));
+    stays = λ lane o mark said e f. subst (NamesSo w i st) (sym (grind arith)) h;
+    writes = λ lane o v u mark e f. subst (NamesSo w i (write s v u mark st).1) (sym (grind arith)) (same (write s v u mark st).1 (on_write s v u mark st));
     reverts = λ lane n v k mark e f. same _ (on_revert s v k mark st);
     deletes_set = λ lane n x mark e. h;
     deletes_image = λ lane n v k mark e. h;
@@ -133,8 +114,7 @@ module _ (s : Plan) (w i : ℕ) (st : State) (c : Bool) (h : NamesSo w i st c) w
   }
 
   names_after : (b : Bool) (act : Act) → enabled s st act.event ≡ b → NamesSo w i (after s st act) (names_if b s w i st c act)
-  names_after true act e = told_covered Next s st follows act e
-  names_after false act e = subst (λ x. NamesSo w i x c) (sym (after_not_enabled s st act e)) h
+  names_after b act e = grind (arith, told_covered, follows, after_not_enabled)
 
 names_along : (s : Plan) (w i : ℕ) (st : State) (c : Bool) (acts : List Act) → NamesSo w i st c → NamesSo w i (fold (after s) st acts) (names_from s w i st c acts)
 names_along s w i st c [] h = h
@@ -155,11 +135,7 @@ module _ (ps : List Pair) (named : ℕ → Bool) (w : ℕ) (same_pair : (i : ℕ
 
   named_listed : (parts : List Part) (i : ℕ) (cs : List Part) → choices_from (Named ps) parts w i cs ≡ parts_listed false named parts w i cs
   named_listed parts i [] = refl
-  named_listed parts i (c ∷ cs) =
-      let along = not c.selectable && not (list_any (λ (a : Part). a.selectable && is_ancestor a c) parts) in
-      ap (λ b. choice_if (b || has_named_ancestor ps w c 0 parts || along) w i b ++ choices_from (Named ps) parts w (i + 1) cs) (same_pair i)
-      ∙ ap (λ b. choice_if (named i || b || along) w i (named i) ++ choices_from (Named ps) parts w (i + 1) cs) (above c 0 parts)
-      ∙ ap (λ xs. choice_if (named i || is_below named c 0 parts || along) w i (named i) ++ xs) (named_listed parts (i + 1) cs)
+  named_listed parts i (c ∷ cs) = grind (arith, above, named_listed parts (i + 1) cs)
 
 -- ## all writers
 
@@ -186,8 +162,7 @@ module _ (s : Plan) (so_far : List Act) (q : Session) (e : (state s so_far).sess
   taker_picked w f = with_writer (is_writer s w) (is_taker (selected s q st) w) (picks w) f (taker_is s st q.mode w ∙ ap (λ b. is_writer s w && b) (selected_is w))
     where
       with_writer : (a b c : Bool) → a ≡ true → (a && b) ≡ (a && c) → b ≡ c
-      with_writer true b c e f = f
-      with_writer false b c e f = absurd cc
+      with_writer a b c e f = grind arith
 
   not_picked : (w : ℕ) → is_known s st w ≡ false → picks w ≡ false
   not_picked w f = sym (selected_is w) ∙ by_mode q.mode where
@@ -195,29 +170,13 @@ module _ (s : Plan) (so_far : List Act) (q : Session) (e : (state s so_far).sess
     by_mode All = f
     by_mode Components = false_from_ne_true (list_any (λ (p : Pair). p.writer == w) st.explicit) (λ g. true_not_false (is_known s st w) (named_is_known s st w (named_known_components s so_far) g) f)
 
-  writer_are : (w : ℕ) (p : WriterPlan) → is_writer s w ≡ true → choices_of (selected s q st) w (meta_if (is_known s st w) p.meta) ≡ writer_listed s so_far w p
-  writer_are w p f = grind (arith, taker_picked, parts_are, not_picked)
-
   writers_are : (w : ℕ) (ps : List WriterPlan) → w + length ps ≡ length s.writers → chosen_from (selected s q st) w (known_from s st w ps) ≡ writers_listed s so_far w ps
   writers_are w [] f = refl
-  writers_are w (p ∷ ps) f =
-      ap (λ xs. xs ++ chosen_from (selected s q st) (w + 1) (known_from s st (w + 1) ps)) (writer_are w p (inside w (length ps) (length s.writers) f))
-      ∙ ap (λ xs. writer_listed s so_far w p ++ xs) (writers_are (w + 1) ps (next w (length ps) (length s.writers) f)) where
-        inside : (w n m : ℕ) → w + suc n ≡ m → nat_lt w m ≡ true
-        inside w n m e = grind arith
-
-        next : (w n m : ℕ) → w + suc n ≡ m → (w + 1) + n ≡ m
-        next w n m e = omega arith
-
-  named_mode : is_named (selected s q st) ≡ not all
-  named_mode = grind (arith, mode_is)
+  writers_are w (p ∷ ps) f = grind (arith, taker_picked, parts_are, not_picked, writers_are (w + 1) ps (grind arith))
 
   text_is : document_text (known_metas s st) (selected s q st) q.context ≡ compact_text (document_of (choices_data (known_metas s st) (writers_listed s so_far 0 s.writers)) q.context (not all))
   unfolding document_text
-  text_is = grind (arith, writers_are, named_mode)
+  text_is = grind (arith, writers_are, mode_is)
 
 pub tells_document : (s : Plan) (so_far : List Act) (act : Act) → TellsDocument s so_far act
-tells_document s so_far act lane q e f g =
-    let st = state s so_far in
-    let is = line_reply s st act (Line lane op.Document) e in
-    is ∙ tells s st lane call.Document op.Document q f refl (ap is_accepted (sym is) ∙ g) ∙ ap DocumentOf (text_is s so_far q f)
+tells_document s so_far act lane q e f g = grind (arith, line_reply, tells, text_is)

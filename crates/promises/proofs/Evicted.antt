@@ -1,10 +1,10 @@
 -- Exactly the kept images that a write takes are told as evicted.
 use Rattle.std.proofs.Common.{◌≡◌, ◌∙◌, ℕ, ◌+◌, ◌==◌, ◌<◌, zero, suc, List, [], ◌∷◌, ◌++◌, ◌⊎◌, Option, Some, None, refl, Bool, true, false, ap, sym, inl, inr, filter, length, arith}
-use Rattle.std.specs.Prelude.{◌&&◌, ◌||◌, not, nat_lt, if◌then◌else◌}
+use Rattle.std.specs.Prelude.{◌&&◌, not, nat_lt, if◌then◌else◌}
 use Rattle.promises.proofs.Words.{list_any, list_all, flat_map, list_any-append, lt-ltb, Fill, Stamp, payload_bytes, Evicted, Mark, Write, History, evicted_of}
 use Rattle.promises.proofs.Words.{is_among, Op, Target, target_of, Plan, Event, Line, State, SetRow, is_complete, in_progress, has_image, is_kept_set}
 use Rattle.promises.proofs.Words.{NumberedFrom, Act, enabled, happens, after, volumes_losing, evicted_for, evicted_at, evicted, true_not_false, orderly}
-use Rattle.promises.proofs.Words.{running_incomplete, at, FewerIn, fewer_in_over, as_many_gone, stands, Fails, is_write, is_told, goes_before, are_in_order}
+use Rattle.promises.proofs.Words.{running_incomplete, at, FewerIn, fewer_in_over, as_many_gone, stands, Fails, is_told, goes_before, are_in_order}
 use Rattle.promises.proofs.Words.{TellsEvicted, after_enabled, and-false, and_from, true_from_ne_false, or_left, or_from, set_loses_image, cleared, with_room}
 use Rattle.promises.proofs.Words.{put, write, number_is}
 use Rattle.scenario.specs.declared.op.Op.TheVariants as op
@@ -18,53 +18,20 @@ use Rattle.std.proofs.lemmas.List.Folds.{list_all-append}
 none_before : (n u v : ℕ) (hs ks : List History) → v < u → is_among v (volumes_losing n u hs ks) ≡ false
 none_before n u v [] ks l = refl
 none_before n u v (h ∷ hs) [] l = refl
-none_before n u v (h ∷ hs) (k ∷ ks) l = by_loss (has_image n h && not (has_image n k)) (none_before n (u + 1) v hs ks (still_less u v l)) where
-  by_loss : (b : Bool) → is_among v (volumes_losing n (u + 1) hs ks) ≡ false → is_among v (if b then u ∷ volumes_losing n (u + 1) hs ks else volumes_losing n (u + 1) hs ks) ≡ false
-  by_loss true ih = or_from (u == v) (is_among v (volumes_losing n (u + 1) hs ks)) (beyond u v l) ih
-  by_loss false ih = ih
+none_before n u v (h ∷ hs) (k ∷ ks) l = grind (arith, still_less, or_from, beyond, none_before n (u + 1) v hs ks (still_less u v l))
 
 among_losing : (n u k v : ℕ) (hs ks : List History) → length ks ≡ length hs → v ≡ u + k → is_among v (volumes_losing n u hs ks) ≡ (has_image n (at hs k) && not (has_image n (at ks k)))
 among_losing n u zero v [] ks e f = refl
 among_losing n u (suc k) v [] ks e f = refl
 among_losing n u k v (h ∷ hs) [] e f = absurd cc
-among_losing n u zero v (h ∷ hs) (k ∷ ks) e f = by_loss (has_image n h && not (has_image n k)) (none_before n (u + 1) v hs ks (before u v f)) where
-  before : (a b : ℕ) → b ≡ a + 0 → b < a + 1
-  before a b e = omega (arith, e)
-
-  same : (a b : ℕ) → b ≡ a + 0 → (a == b) ≡ true
-  same a b e = grind arith
-
-  by_loss : (b : Bool) → is_among v (volumes_losing n (u + 1) hs ks) ≡ false → is_among v (if b then u ∷ volumes_losing n (u + 1) hs ks else volumes_losing n (u + 1) hs ks) ≡ b
-  by_loss true ih = or_left (u == v) (is_among v (volumes_losing n (u + 1) hs ks)) (same u v f)
-  by_loss false ih = ih
-among_losing n u (suc j) v (h ∷ hs) (k ∷ ks) e f = by_loss (has_image n h && not (has_image n k)) (among_losing n (u + 1) j v hs ks (one_less (length ks) (length hs) e) (shift u j v f))
-  where
-    one_less : (a b : ℕ) → suc a ≡ suc b → a ≡ b
-    one_less a b e = omega (arith, e)
-
-    shift : (a j b : ℕ) → b ≡ a + suc j → b ≡ (a + 1) + j
-    shift a j b e = omega (arith, e)
-
-    other : (a j b : ℕ) → b ≡ a + suc j → (a == b) ≡ false
-    other a j b e = grind arith
-
-    second : (a b c : Bool) → a ≡ false → b ≡ c → (a || b) ≡ c
-    second true b c e g = absurd cc
-    second false b c e g = g
-
-    by_loss : (b : Bool) → is_among v (volumes_losing n (u + 1) hs ks) ≡ (has_image n (at hs j) && not (has_image n (at ks j)))
-        → is_among v (if b then u ∷ volumes_losing n (u + 1) hs ks else volumes_losing n (u + 1) hs ks) ≡ (has_image n (at hs j) && not (has_image n (at ks j)))
-    by_loss true ih = second (u == v) (is_among v (volumes_losing n (u + 1) hs ks)) (has_image n (at hs j) && not (has_image n (at ks j))) (other u j v f) ih
-    by_loss false ih = ih
+among_losing n u zero v (h ∷ hs) (k ∷ ks) e f = grind (arith, none_before, or_left)
+among_losing n u (suc j) v (h ∷ hs) (k ∷ ks) e f = grind (arith, among_losing n (u + 1) j v hs ks (grind arith) (grind arith))
 
 -- ## the sets that lose one
 
 told_of : (m n v : ℕ) (vs : List ℕ) → is_told n v (evicted_of m vs) ≡ ((m == n) && is_among v vs)
 told_of m n v [] = off (m == n)
-told_of m n v (u ∷ vs) = ap (λ b. ((m == n) && (u == v)) || b) (told_of m n v vs) ∙ joined (m == n) (u == v) (is_among v vs) where
-  joined : (a b c : Bool) → ((a && b) || (a && c)) ≡ (a && (b || c))
-  joined true b c = refl
-  joined false b c = refl
+told_of m n v (u ∷ vs) = grind (arith, told_of m n v vs)
 
 module _ (n v : ℕ) (hs ks : List History) where
   abbrev told_row : SetRow → List Evicted
@@ -73,27 +40,7 @@ module _ (n v : ℕ) (hs ks : List History) where
   told_rows : (rows : List SetRow) → is_told n v (flat_map told_row (filter (λ r. is_complete r.result) rows))
       ≡ (list_any (λ (r : SetRow). (r.number == n) && is_complete r.result) rows && is_among v (volumes_losing n 0 hs ks))
   told_rows [] = refl
-  told_rows (r ∷ rows) = by_result (is_complete r.result) (told_rows rows) where
-    not_it : (a b : Bool) → b ≡ ((a && false) || b)
-    not_it true b = refl
-    not_it false b = refl
-
-    either_is : (a b c d e : Bool) → d ≡ (b && c) → (a ≡ true → e ≡ c) → ((a && e) || d) ≡ (((a && true) || b) && c)
-    either_is true b true d e f g = ap (λ x. x || d) (g refl)
-    either_is true b false d e f g = ap (λ x. x || d) (g refl) ∙ f ∙ and-false b
-    either_is false b c d e f g = f
-
-    by_result : (b : Bool) → is_told n v (flat_map told_row (filter (λ q. is_complete q.result) rows))
-        ≡ (list_any (λ (q : SetRow). (q.number == n) && is_complete q.result) rows && is_among v (volumes_losing n 0 hs ks))
-        → is_told n v (flat_map told_row (if b then r ∷ filter (λ q. is_complete q.result) rows else filter (λ q. is_complete q.result) rows))
-        ≡ ((((r.number == n) && b) || list_any (λ (q : SetRow). (q.number == n) && is_complete q.result) rows) && is_among v (volumes_losing n 0 hs ks))
-    by_result true ih =
-        list_any-append (λ (e : Evicted). (e.set == n) && (e.volume == v)) (told_row r) (flat_map told_row (filter (λ q. is_complete q.result) rows))
-        ∙ ap (λ b. b || is_told n v (flat_map told_row (filter (λ q. is_complete q.result) rows))) (told_of r.number n v (volumes_losing r.number 0 hs ks))
-        ∙ either_is (r.number == n) (list_any (λ (q : SetRow). (q.number == n) && is_complete q.result) rows) (is_among v (volumes_losing n 0 hs ks))
-        (is_told n v (flat_map told_row (filter (λ q. is_complete q.result) rows)))
-        (is_among v (volumes_losing r.number 0 hs ks)) ih (λ e. ap (λ m. is_among v (volumes_losing m 0 hs ks)) (number_is r.number n e))
-    by_result false ih = ih ∙ ap (λ b. b && is_among v (volumes_losing n 0 hs ks)) (not_it (r.number == n) (list_any (λ (q : SetRow). (q.number == n) && is_complete q.result) rows))
+  told_rows (r ∷ rows) = grind (arith, and-false, list_any-append, told_of, number_is, told_rows rows)
 
 -- ## in order
 
@@ -107,38 +54,22 @@ of_set m u hs ks = evicted_of m (volumes_losing m u hs ks)
 after_volume : (m u w : ℕ) (hs ks : List History) → w < u → list_all (goes_before (record { set = m; volume = w })) (of_set m u hs ks) ≡ true
 after_volume m u w [] ks l = refl
 after_volume m u w (h ∷ hs) [] l = refl
-after_volume m u w (h ∷ hs) (k ∷ ks) l = by_loss (has_image m h && not (has_image m k)) (after_volume m (u + 1) w hs ks (still_less u w l)) where
-  before : (m a b : ℕ) → b < a → (nat_lt m m || ((m == m) && nat_lt b a)) ≡ true
-  before m a b l = grind arith
-
-  by_loss : (b : Bool) → list_all (goes_before (record { set = m; volume = w })) (of_set m (u + 1) hs ks) ≡ true
-      → list_all (goes_before (record { set = m; volume = w })) (evicted_of m (if b then u ∷ volumes_losing m (u + 1) hs ks else volumes_losing m (u + 1) hs ks)) ≡ true
-  by_loss true ih = and_from (goes_before (record { set = m; volume = w }) (record { set = m; volume = u }))
-      (list_all (goes_before (record { set = m; volume = w })) (of_set m (u + 1) hs ks)) (before m u w l) ih
-  by_loss false ih = ih
+after_volume m u w (h ∷ hs) (k ∷ ks) l = grind (arith, still_less, and_from, after_volume m (u + 1) w hs ks (still_less u w l))
 
 -- a list in order behind images of one set
 in_order_on : (m u : ℕ) (hs ks : List History) (es : List Evicted) → are_in_order es ≡ true → list_all (λ (f : Evicted). nat_lt m f.set) es ≡ true → are_in_order (of_set m u hs ks ++ es) ≡ true
 in_order_on m u [] ks es e f = e
 in_order_on m u (h ∷ hs) [] es e f = e
 in_order_on m u (h ∷ hs) (k ∷ ks) es e f = by_loss (has_image m h && not (has_image m k)) (in_order_on m (u + 1) hs ks es e f) where
-  next : (a : ℕ) → a < a + 1
-  next a = omega arith
-
   later_sets : (fs : List Evicted) → list_all (λ (x : Evicted). nat_lt m x.set) fs ≡ true → list_all (goes_before (record { set = m; volume = u })) fs ≡ true
   later_sets [] g = refl
-  later_sets (x ∷ fs) g = by_less (nat_lt m x.set) g (later_sets fs) where
-    by_less : (b : Bool) → (b && list_all (λ (y : Evicted). nat_lt m y.set) fs) ≡ true
-        → (list_all (λ (y : Evicted). nat_lt m y.set) fs ≡ true → list_all (goes_before (record { set = m; volume = u })) fs ≡ true)
-        → ((b || ((m == x.set) && nat_lt u x.volume)) && list_all (goes_before (record { set = m; volume = u })) fs) ≡ true
-    by_less true g ih = ih g
-    by_less false g ih = absurd cc
+  later_sets (x ∷ fs) g = grind (arith, later_sets fs)
 
   by_loss : (b : Bool) → are_in_order (of_set m (u + 1) hs ks ++ es) ≡ true
       → are_in_order (evicted_of m (if b then u ∷ volumes_losing m (u + 1) hs ks else volumes_losing m (u + 1) hs ks) ++ es) ≡ true
   by_loss true ih =
       and_from (list_all (goes_before (record { set = m; volume = u })) (of_set m (u + 1) hs ks ++ es)) (are_in_order (of_set m (u + 1) hs ks ++ es))
-      (all_of_both (goes_before (record { set = m; volume = u })) (of_set m (u + 1) hs ks) es (after_volume m (u + 1) u hs ks (next u)) (later_sets es f)) ih
+      (all_of_both (goes_before (record { set = m; volume = u })) (of_set m (u + 1) hs ks) es (after_volume m (u + 1) u hs ks (omega arith)) (later_sets es f)) ih
   by_loss false ih = ih
 
 of_later_set : (m k : ℕ) (vs : List ℕ) → m < k → list_all (λ (f : Evicted). nat_lt m f.set) (evicted_of k vs) ≡ true
@@ -149,32 +80,11 @@ module _ (hs ks : List History) where
   later_rows : (m k : ℕ) (rows : List SetRow) → NumberedFrom k rows → m < k
       → list_all (λ (f : Evicted). nat_lt m f.set) (flat_map (told_row 0 0 hs ks) (filter (λ r. is_complete r.result) rows)) ≡ true
   later_rows m k [] num l = refl
-  later_rows m k (r ∷ rows) num l = by_result (is_complete r.result) (later_rows m (k + 1) rows num.1 (still m k l)) where
-    still : (a b : ℕ) → a < b → a < b + 1
-    still a b l = omega arith
-
-    own : (a b c : ℕ) → c ≡ b → a < b → a < c
-    own a b c e l = omega (arith, e, l)
-
-    by_result : (b : Bool) → list_all (λ (f : Evicted). nat_lt m f.set) (flat_map (told_row 0 0 hs ks) (filter (λ q. is_complete q.result) rows)) ≡ true
-        → list_all (λ (f : Evicted). nat_lt m f.set) (flat_map (told_row 0 0 hs ks) (if b then r ∷ filter (λ q. is_complete q.result) rows else filter (λ q. is_complete q.result) rows)) ≡ true
-    by_result true ih =
-        all_of_both (λ (f : Evicted). nat_lt m f.set) (told_row 0 0 hs ks r) (flat_map (told_row 0 0 hs ks) (filter (λ q. is_complete q.result) rows))
-        (of_later_set m r.number (volumes_losing r.number 0 hs ks) (own m k r.number num.0 l)) ih
-    by_result false ih = ih
+  later_rows m k (r ∷ rows) num l = grind (arith, all_of_both, of_later_set, later_rows m (k + 1) rows num.1 (grind arith))
 
   rows_in_order : (k : ℕ) (rows : List SetRow) → NumberedFrom k rows → are_in_order (flat_map (told_row 0 0 hs ks) (filter (λ r. is_complete r.result) rows)) ≡ true
   rows_in_order k [] num = refl
-  rows_in_order k (r ∷ rows) num = by_result (is_complete r.result) (rows_in_order (k + 1) rows num.1) (later_rows r.number (k + 1) rows num.1 (own k r.number num.0))
-    where
-      own : (a b : ℕ) → b ≡ a → b < a + 1
-      own a b e = omega (arith, e)
-
-      by_result : (b : Bool) → are_in_order (flat_map (told_row 0 0 hs ks) (filter (λ q. is_complete q.result) rows)) ≡ true
-          → list_all (λ (f : Evicted). nat_lt r.number f.set) (flat_map (told_row 0 0 hs ks) (filter (λ q. is_complete q.result) rows)) ≡ true
-          → are_in_order (flat_map (told_row 0 0 hs ks) (if b then r ∷ filter (λ q. is_complete q.result) rows else filter (λ q. is_complete q.result) rows)) ≡ true
-      by_result true ih later = in_order_on r.number 0 hs ks (flat_map (told_row 0 0 hs ks) (filter (λ q. is_complete q.result) rows)) ih later
-      by_result false ih later = ih
+  rows_in_order k (r ∷ rows) num = grind (arith, later_rows, in_order_on, rows_in_order (k + 1) rows num.1)
 
 -- ## a write
 
@@ -205,15 +115,10 @@ module _ (s : Plan) (st : State) (num : NumberedFrom 1 st.sets) (n v u : ℕ) (w
   told_for : is_told n v (evicted_for s st u w.block) ≡ (is_kept_set st n && (stands st n v && not (stands written_to n v)))
   told_for =
       told_rows n v st.volumes fits.volumes st.sets
-      ∙ ap (λ b. is_kept_set st n && b) (among_losing n 0 v v st.volumes fits.volumes (as_many_gone _ _ st.volumes) (zero_plus v))
+      ∙ ap (λ b. is_kept_set st n && b) (among_losing n 0 v v st.volumes fits.volumes (as_many_gone _ _ st.volumes) (omega arith))
       ∙ by_kept (is_kept_set st n) (stands st n v) refl refl where
-        zero_plus : (a : ℕ) → a ≡ 0 + a
-        zero_plus a = omega arith
-
         by_kept : (b c : Bool) → is_kept_set st n ≡ b → stands st n v ≡ c → (b && (c && not (stands fits n v))) ≡ (b && (c && not (stands written_to n v)))
-        by_kept true true e f = ap not (sym (stands_on e f))
-        by_kept true false e f = refl
-        by_kept false c e f = refl
+        by_kept b c e f = grind (arith, stands_on)
 
 told_if : (s : Plan) (st : State) (act : Act) (n v u : ℕ) (w : Write) (event : Event) → NumberedFrom 1 st.sets → act.event ≡ event
     → evicted s st event ≡ evicted_for s st u w.block → after s st act ≡ (write s u w act.mark st).1
@@ -236,11 +141,5 @@ ordered_at : (s : Plan) (st : State) (t : Option Target) → NumberedFrom 1 st.s
 ordered_at s st None num = refl
 ordered_at s st (Some t) num = rows_in_order st.volumes (cleared s t.volume t.block st).volumes 1 st.sets num
 
-ordered : (s : Plan) (st : State) (event : Event) → NumberedFrom 1 st.sets → are_in_order (evicted s st event) ≡ true
-ordered s st event num = grind (arith, ordered_at)
-
-none_other : (s : Plan) (st : State) (event : Event) → is_write event ≡ false → evicted s st event ≡ []
-none_other s st event e = grind arith
-
 pub tells_evicted : (s : Plan) (so_far : List Act) (act : Act) → TellsEvicted s so_far act
-tells_evicted s so_far act = grind (arith, orderly, told_by, ordered, none_other)
+tells_evicted s so_far act = grind (arith, orderly, told_by, ordered_at)

@@ -2,28 +2,27 @@
 use Rattle.std.proofs.Common.{◌≡◌, ◌∙◌, ℕ, ◌+◌, ◌==◌, List, Option, Some, refl, Bool, true, false, ap, sym, subst, map, arith, ◌<◌, ◌≤◌, zero, suc, [], ◌∷◌}
 use Rattle.std.proofs.Common.{None, find, length}
 use Rattle.std.proofs.lemmas.Bool.{and_parts, false_from_ne_true}
-use Rattle.std.specs.Prelude.{◌&&◌, not, ◌||◌, nat_lt, unwrap_or, if◌then◌else◌, slice_get}
+use Rattle.std.specs.Prelude.{◌&&◌, not, ◌||◌, unwrap_or, if◌then◌else◌, slice_get}
 use Rattle.vss_names.specs.declared.set_outcome.SetOutcome.TheVariants.{Running as RunningSet, Failed as FailedSet}
 use Rattle.set_agenda.specs.Course.{Course, failed as course_failed, is_decisive, decided, answered_to, answered as course_answered, timed as course_timed}
 use Rattle.writer_calls.specs.declared.answer.Answer.{Answer}
 use Rattle.requestor.specs.declared.session_call.SessionCall.TheVariants as call
 use Rattle.scenario.specs.declared.op.Op.TheVariants as op
-use Rattle.vss_model.specs.Steps.{ending, row_settled, runs}
+use Rattle.vss_model.specs.Steps.{row_settled, runs}
 use Rattle.vss_model.specs.Images.{set_loses_image}
 use Rattle.vss_model.specs.declared.event.Event.TheVariants.{Line, Answer as AnswerEvent, Provider, Idle}
-use Rattle.vss_model.proofs.StateForm.{concluded, followed, failed_in, failed, cleared, with_room_if, with_room, put, write, closed, line_in, judged, answered}
+use Rattle.vss_model.proofs.StateForm.{followed, failed_in, failed, cleared, with_room_if, with_room, put, write, closed, line_in, judged, answered}
 use Rattle.vss_model.proofs.StateForm.{ticked, later, called, line}
 use Rattle.promises.proofs.GoneImages.{fails_as, gone_group, left_in_group, least_sets}
 use Rattle.promises.proofs.Limits.{is_due_in, posted_fails, timed_fails}
 use Rattle.promises.proofs.Times.{late_is_due}
 use Rattle.promises.proofs.Words.{Fill, Stamp, payload_bytes, Order, SetOutcome, VssResult, InsufficientStorage, AsyncCancelled, Said, is_ok, Mark, Fault}
-use Rattle.promises.proofs.Words.{Write, said_of, Group, Flush, Agenda, left, open_order, open_group, Go, Session, makes_set, check_other, owner_only}
-use Rattle.promises.proofs.Words.{verdict_of, Op, Plan, Event, State, SetRow, in_progress, left_now, Act, enabled, happens, order_of_writer, idle_now, after}
-use Rattle.promises.proofs.Words.{state, NumberedFrom, IsOfSession, IsOrderly, has_failed, needs_consent, is_veto, is_refused, is_late_in, is_late, is_fault}
-use Rattle.promises.proofs.Words.{is_flush_step, loses_own_image, owns, line_gives_cause, gives_cause, IsFailed, fails_with_cause, outcome_is_running}
-use Rattle.promises.proofs.Words.{flush_fails, orderly, FailsForCause, after_enabled, range_with_len, ltb-false, ltb-true, or_right, History, Placed}
-use Rattle.promises.proofs.Words.{lacks_slot, gone_up_to, evicted_up_to, Target, target_of, slots_of, group_of, has_image, going_up_to, has_lost_image}
-use Rattle.promises.proofs.Words.{true_not_false, at, HasNoSlot, WritesFailForSlots, within, some_same}
+use Rattle.promises.proofs.Words.{Write, said_of, left, open_order, Go, Session, makes_set, check_other, owner_only, verdict_of, Op, Plan, Event}
+use Rattle.promises.proofs.Words.{State, SetRow, in_progress, Act, enabled, happens, order_of_writer, idle_now, after, state, NumberedFrom, IsOrderly}
+use Rattle.promises.proofs.Words.{has_failed, needs_consent, is_veto, is_refused, is_late_in, is_late, is_fault, loses_own_image, owns}
+use Rattle.promises.proofs.Words.{line_gives_cause, gives_cause, IsFailed, fails_with_cause, outcome_is_running, flush_fails, orderly, FailsForCause}
+use Rattle.promises.proofs.Words.{after_enabled, range_with_len, or_right, History, Placed, lacks_slot, gone_up_to, evicted_up_to, Target, target_of, slots_of}
+use Rattle.promises.proofs.Words.{group_of, has_image, going_up_to, has_lost_image, true_not_false, at, HasNoSlot, WritesFailForSlots, within, some_same}
 
 -- ## Each cause fails the set in progress in the act that gives it.
 
@@ -48,13 +47,9 @@ refused_fails w answer now c e = posted_fails c _ (refused_to (open_order (left 
 -- ## the state
 
 module _ (s : Plan) (st : State) (r : SetRow) (e : in_progress st ≡ Some r) (num : NumberedFrom 1 st.sets) (run : st.course.outcome ≡ RunningSet) where
-  ended_sets : (o p : SetOutcome) (ran : Bool) (a : Option Agenda) (x : State) → o ≡ RunningSet → has_failed p ≡ true
-      → (concluded (ending o p ran a) x).sets ≡ map (row_settled x.course.outcome) x.sets
-  ended_sets o p ran a x f g = grind arith
-
   pub followed_sets : (ran : Bool) (c : Course) (x : State) → x.course.outcome ≡ RunningSet → has_failed c.outcome ≡ true → (followed ran c x).sets ≡ map (row_settled c.outcome) x.sets
   unfolding followed
-  followed_sets ran c x f g = ended_sets x.course.outcome c.outcome ran c.agenda (record x { course = c }) f g
+  followed_sets ran c x f g = grind arith
 
   pub falls : (x : State) (p : SetOutcome) → x.sets ≡ map (row_settled p) st.sets → has_failed p ≡ true → IsFailed x r.number
   falls x p f g = (fails_as st x r p r.number e num f g refl).failed
@@ -84,9 +79,6 @@ module _ (s : Plan) (st : State) (r : SetRow) (e : in_progress st ≡ Some r) (n
   unfolding closed
   closed_fails q why = falls (closed q (failed why st)) (FailedSet why) (failed_sets (in_progress st) why st e) refl
 
-  put_sets : (v : ℕ) (w : Write) (mark : Mark) (x : State) → (put v w mark x).sets ≡ x.sets
-  put_sets v w mark x = grind arith
-
   room_sets : (b : Bool) (x : State) → x.sets ≡ st.sets → b ≡ true → (with_room_if b x).sets ≡ map (row_settled (FailedSet InsufficientStorage)) st.sets
   room_sets b x f g = grind (arith, failed_sets)
 
@@ -94,15 +86,12 @@ module _ (s : Plan) (st : State) (r : SetRow) (e : in_progress st ≡ Some r) (n
   unfolding write
   write_fails v w mark f =
       falls (put v w mark (with_room s v w.block st)) (FailedSet InsufficientStorage)
-      (put_sets v w mark (with_room s v w.block st)
+      ((grind arith)
       ∙ room_sets (set_loses_image (in_progress st) st.volumes (cleared s v w.block st).volumes) (cleared s v w.block st) refl f) refl
 
   -- `abort` and `end` of the owner
   own_session : (q : Option Session) (lane : ℕ) (X : Type 0) → st.session ≡ q → owns q lane ≡ true → ((p : Session) → st.session ≡ Some p → (p.owner == lane) ≡ true → X) → X
   own_session q lane x2 f g h = grind arith
-
-  stage_makes : (q : Session) → st.session ≡ Some q → IsOfSession st.session st.course.outcome (in_progress st) → makes_set q.stage ≡ true
-  stage_makes q f h = grind arith
 
   goes_on : (b m run : Bool) → b ≡ true → m ≡ true → owner_only b (verdict_of false (run && false) m (false && run)) ≡ Go
   goes_on b m run f g = grind arith
@@ -122,7 +111,7 @@ module _ (s : Plan) (st : State) (r : SetRow) (e : in_progress st ≡ Some r) (n
   end_does q lane f g = ap (λ v. (judged v s lane op.End st).1) g ∙ ap (λ p. (line_in s lane op.End p st).1) f
 
   abort_fails : (lane : ℕ) → IsOrderly st → owns st.session lane ≡ true → IsFailed (called call.Abort s lane op.Abort st).1 r.number
-  abort_fails lane o f = grind (arith, own_session, abort_does, abort_goes, stage_makes, failed_fails)
+  abort_fails lane o f = grind (arith, own_session, abort_does, abort_goes, failed_fails)
 
   end_fails : (lane : ℕ) → owns st.session lane ≡ true → IsFailed (called call.End s lane op.End st).1 r.number
   end_fails lane f =
@@ -138,10 +127,6 @@ module _ (s : Plan) (st : State) (r : SetRow) (e : in_progress st ≡ Some r) (n
   line_fails_set due lane op.End mark i f = end_fails lane f
   line_fails_set due lane o mark i f = absurd cc
 
--- a failed flush
-flush_group : (g : Option Group) → is_flush_step g ≡ true → g ≡ Some Flush
-flush_group g e = grind arith
-
 fault_mark : (m : Mark) → is_fault m ≡ true → m ≡ Fault
 fault_mark m e = grind arith
 
@@ -155,9 +140,7 @@ happens_fails (AnswerEvent w answer) s so_far act r f e on g =
     let st = state s so_far in
     subst (λ x. IsFailed x r.number) (sym (after_enabled s st act on ∙ ap (λ x. (happens s x act.mark st).1) f))
     (answer_fails s st r e (orderly s so_far).numbered (outcome_is_running s so_far r e) w answer g)
-happens_fails Provider s so_far act r f e on g =
-    let parts = and_parts (is_flush_step (open_group (left_now (state s so_far)))) (is_fault act.mark) g in
-    flush_fails s so_far act r e f (flush_group (open_group (left_now (state s so_far))) parts.0) (fault_mark act.mark parts.1)
+happens_fails Provider s so_far act r f e on g = grind (arith, and_parts, flush_fails, fault_mark)
 happens_fails Idle s so_far act r f e on g =
     let st = state s so_far in
     subst (λ x. IsFailed x r.number) (sym (after_enabled s st act on ∙ ap (λ x. (happens s x act.mark st).1) f))
@@ -184,9 +167,7 @@ lost_there n (h ∷ hs) (k ∷ ks) e = by_head (has_image n h) (has_image n k) r
   later more = record { volume = suc more.volume; was = more.was; gone = more.gone }
 
   by_head : (a b : Bool) → has_image n h ≡ a → has_image n k ≡ b → ((a && not b) || has_lost_image n hs ks) ≡ true → (has_lost_image n hs ks ≡ true → IsLost n hs ks) → IsLost n (h ∷ hs) (k ∷ ks)
-  by_head true false f g e ih = record { volume = 0; was = f; gone = g }
-  by_head true true f g e ih = later (ih e)
-  by_head false b f g e ih = later (ih e)
+  by_head a b f g e ih = grind (arith, later)
 
 -- of those up to m, in a group
 lost_in_group : (m n : ℕ) (ps : List Placed) (hs : List History) (v : ℕ) → within (slice_get ps v) ≡ true → has_image n (at hs v) ≡ true → n ≤ m → has_lost_image n hs (gone_up_to m ps hs) ≡ true
@@ -209,22 +190,7 @@ lost_in_group m n (p ∷ ps) (h ∷ hs) (suc v) w e l = or_right _ _ (lost_in_gr
 
 reaches : (test : ℕ → Bool) (a len bound : ℕ) → bound ≤ a + len → ((m : ℕ) → a ≤ m → m < bound → test m ≡ false) → bound ≤ unwrap_or (find test (range_with_len a len)) (a + len)
 reaches test a zero bound l h = l
-reaches test a (suc len) bound l h = by_head (test a) (nat_lt a bound) refl refl (reaches test (a + 1) len bound (subst (λ k. bound ≤ k) (one_more a len) l) (λ m i j. h m (less a m i) j))
-  where
-    one_more : (a len : ℕ) → a + suc len ≡ a + 1 + len
-    one_more a len = omega arith
-
-    less : (a m : ℕ) → a + 1 ≤ m → a ≤ m
-    less a m l = omega arith
-
-    itself : (a : ℕ) → a ≤ a
-    itself a = omega arith
-
-    by_head : (b c : Bool) → test a ≡ b → nat_lt a bound ≡ c → bound ≤ unwrap_or (find test (range_with_len (a + 1) len)) (a + 1 + len)
-        → bound ≤ unwrap_or (if b then Some a else find test (range_with_len (a + 1) len)) (a + suc len)
-    by_head true true e f i = absurd (true_not_false (test a) e (h a (itself a) (ltb-true a bound f)))
-    by_head true false e f i = ltb-false a bound f
-    by_head false c e f i = subst (λ k. bound ≤ unwrap_or (find test (range_with_len (a + 1) len)) k) (sym (one_more a len)) i
+reaches test a (suc len) bound l h = grind (arith, true_not_false, reaches test (a + 1) len bound (grind arith) (grind arith))
 
 -- as many go, at least, as leave no slot
 goes_so_far : (sets slots : ℕ) (ps : List Placed) (v b : ℕ) (hs : List History) (n : ℕ) → n ≤ sets
@@ -238,16 +204,7 @@ goes_so_far sets slots ps v b hs n l h =
 -- the numbers of sets are no greater than there are sets
 numbered_within : (k : ℕ) (rows : List SetRow) (test : SetRow → Bool) (r : SetRow) → NumberedFrom k rows → find test rows ≡ Some r → r.number + 1 ≤ k + length rows
 numbered_within k [] test r num e = absurd cc
-numbered_within k (q ∷ rows) test r num e = by_head (test q) e (numbered_within (k + 1) rows test r num.1) where
-  here : (a n : ℕ) → a ≡ k → a + 1 ≤ k + suc n
-  here a n e = omega (arith, e)
-
-  later : (a n : ℕ) → a + 1 ≤ k + 1 + n → a + 1 ≤ k + suc n
-  later a n l = omega arith
-
-  by_head : (b : Bool) → (if b then Some q else find test rows) ≡ Some r → (find test rows ≡ Some r → r.number + 1 ≤ k + 1 + length rows) → r.number + 1 ≤ k + suc (length rows)
-  by_head true e ih = here r.number (length rows) (ap (λ (x : SetRow). x.number) (sym (some_same q r e)) ∙ num.0)
-  by_head false e ih = later r.number (length rows) (ih e)
+numbered_within k (q ∷ rows) test r num e = grind (arith, some_same, numbered_within (k + 1) rows test r num.1)
 
 -- ## both ways
 
@@ -266,19 +223,14 @@ module _ (s : Plan) (st : State) (r : SetRow) (is : in_progress st ≡ Some r) (
         volume = lost.volume;
         shared = went.0;
         stands_there = lost.was;
-        full = λ m l. least_sets (length st.sets) (slots_of s v) (group_of s v) v b st.volumes m (less m r.number most l went.1);
-      } where
-        less : (a b c : ℕ) → a < b → b ≤ c → a < c
-        less a b c l h = omega arith
+        full = λ m l. least_sets (length st.sets) (slots_of s v) (group_of s v) v b st.volumes m (grind (arith, went.1));
+      }
 
   pub loses : NumberedFrom 1 st.sets → HasNoSlot s st r.number v b → loses_own_image s st v b ≡ true
   loses num h =
       loses_of
       ∙ lost_in_group most r.number (group_of s v) st.volumes h.volume h.shared h.stands_there
-      (goes_so_far (length st.sets) (slots_of s v) (group_of s v) v b st.volumes r.number (within_sets r.number (length st.sets) (numbered_within 1 st.sets _ r num is)) h.full)
-    where
-      within_sets : (n k : ℕ) → n + 1 ≤ 1 + k → n ≤ k
-      within_sets n k l = omega arith
+      (goes_so_far (length st.sets) (slots_of s v) (group_of s v) v b st.volumes r.number (grind (arith, numbered_within 1 st.sets _ r num is)) h.full)
 
 -- where no set is in progress, or its images need not go
 pub loses_none : (s : Plan) (st : State) (v b : ℕ) → ((r : SetRow) → in_progress st ≡ Some r → HasNoSlot s st r.number v b → ⊥) → loses_own_image s st v b ≡ false
@@ -287,12 +239,9 @@ loses_none s st v b h = by_set (in_progress st) refl where
   by_set None e = ap (λ o. set_loses_image o st.volumes (cleared s v b st).volumes) e
   by_set (Some r) e = false_from_ne_true (loses_own_image s st v b) (λ f. h r e (no_slot s st r e v b f))
 
-some_target : (a b : Target) → Some a ≡ Some b → a ≡ b
-some_target a b e = cc
-
 cause_of_write : (s : Plan) (st : State) (lane : ℕ) (o : Op) (t : Target) (act : Act) → act.event ≡ Line lane o → target_of o ≡ Some t
     → gives_cause s st act.event act.mark ≡ loses_own_image s st t.volume t.block
-cause_of_write s st lane o t act e f = grind (arith, some_target)
+cause_of_write s st lane o t act e f = grind arith
 
 pub writes_fail_for_slots : (s : Plan) (so_far : List Act) (act : Act) → WritesFailForSlots s so_far act
 writes_fail_for_slots s so_far act = record {

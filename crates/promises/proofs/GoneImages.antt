@@ -3,10 +3,9 @@ use Rattle.std.proofs.Common.{◌≡◌, ◌∙◌, ℕ, ◌+◌, ◌==◌, ◌�
 use Rattle.std.specs.Prelude.{not, nat_lt, is_some, unwrap_or, option_map, if◌then◌else◌, slice_get}
 use Rattle.promises.proofs.Words.{range_with_len, ltb-false, ltb-true, SetOutcome, VssResult, Image, History, point_in, dropped, after_set, up_to_set, Placed}
 use Rattle.promises.proofs.Words.{lacks_slot, gone_up_to, evicted_up_to, Group, Agenda, each_change, State, SetRow, is_running, in_progress, has_image}
-use Rattle.promises.proofs.Words.{step_made, NumberedFrom, has_failed, IsFailed, true_not_false, running_found, row_running, row_settles}
-use Rattle.promises.proofs.Words.{result-settled, at, stands, Fails, within, Failed as FailedSet, Course, posted, settled_in, settled, worked}
-use Rattle.promises.proofs.Words.{stepped as course_stepped, change_at, Ending, SetFails, ending, row_settled, images_dropped, concluded, followed, failed_in}
-use Rattle.promises.proofs.Words.{number_is, not_false}
+use Rattle.promises.proofs.Words.{step_made, NumberedFrom, has_failed, IsFailed, true_not_false, running_found, row_running, row_settles, result-settled, at}
+use Rattle.promises.proofs.Words.{stands, Fails, within, Failed as FailedSet, Course, posted, settled, worked, stepped as course_stepped, change_at, Ending}
+use Rattle.promises.proofs.Words.{SetFails, ending, row_settled, images_dropped, concluded, followed, failed_in, number_is, not_false}
 use Rattle.vss_names.specs.declared.set_outcome.SetOutcome.TheVariants.{Running as RunningSet}
 use Rattle.set_agenda.specs.Course.{failed as course_failed}
 use Rattle.write_history.specs.History.{cut as history_cut}
@@ -16,44 +15,15 @@ use Rattle.promises.proofs.Members.{next_up}
 
 pub gone_by : (test : ℕ → Bool) (n : ℕ) (images : List Image) → is_some (point_in n images) ≡ true → is_some (point_in n (filter (λ i. test i.set) images)) ≡ false → test n ≡ false
 gone_by test n [] e f = absurd cc
-gone_by test n (i ∷ images) e f = by_head (i.set == n) (test i.set) refl refl e f (gone_by test n images) where
-  found : (c : Bool) (o : Option ℕ) → c ≡ true → is_some (if c then Some i.point else o) ≡ true
-  found true o e = refl
-  found false o e = absurd cc
-
-  skipped : (c : Bool) (o : Option ℕ) → c ≡ false → is_some (if c then Some i.point else o) ≡ false → is_some o ≡ false
-  skipped true o e f = absurd cc
-  skipped false o e f = f
-
-  by_head : (b c : Bool) → (i.set == n) ≡ b → test i.set ≡ c → is_some (if b then Some i.point else point_in n images) ≡ true
-      → is_some (point_in n (if c then i ∷ filter (λ i. test i.set) images else filter (λ i. test i.set) images)) ≡ false
-      → (is_some (point_in n images) ≡ true → is_some (point_in n (filter (λ i. test i.set) images)) ≡ false → test n ≡ false) → test n ≡ false
-  by_head true true g h e f ih = absurd (true_not_false _ (found (i.set == n) (point_in n (filter (λ i. test i.set) images)) g) f)
-  by_head true false g h e f ih = subst (λ m. test m ≡ false) (number_is i.set n g) h
-  by_head false true g h e f ih = ih e (skipped (i.set == n) (point_in n (filter (λ i. test i.set) images)) g f)
-  by_head false false g h e f ih = ih e f
+gone_by test n (i ∷ images) e f = grind (arith, true_not_false, number_is, gone_by test n images)
 
 pub kept_by : (test : ℕ → Bool) (n : ℕ) (images : List Image) → is_some (point_in n (filter (λ i. test i.set) images)) ≡ true → test n ≡ true
 kept_by test n [] e = absurd cc
-kept_by test n (i ∷ images) e = by_head (test i.set) (i.set == n) refl refl e (kept_by test n images) where
-  skipped : (c : Bool) (o : Option ℕ) → c ≡ false → is_some (if c then Some i.point else o) ≡ true → is_some o ≡ true
-  skipped true o e f = absurd cc
-  skipped false o e f = f
-
-  by_head : (b c : Bool) → test i.set ≡ b → (i.set == n) ≡ c → is_some (point_in n (if b then i ∷ filter (λ i. test i.set) images else filter (λ i. test i.set) images)) ≡ true
-      → (is_some (point_in n (filter (λ i. test i.set) images)) ≡ true → test n ≡ true) → test n ≡ true
-  by_head false c g h e ih = ih e
-  by_head true true g h e ih = subst (λ m. test m ≡ true) (number_is i.set n h) g
-  by_head true false g h e ih = ih (skipped (i.set == n) _ h e)
+kept_by test n (i ∷ images) e = grind (arith, number_is, kept_by test n images)
 
 still_after : (n : ℕ) (images : List Image) (m p : ℕ) → is_some (point_in n images) ≡ true → is_some (point_in n (images ++ record { set = m; point = p } ∷ [])) ≡ true
 still_after n [] m p e = absurd cc
-still_after n (i ∷ images) m p e = by_head (i.set == n) e (still_after n images m p) where
-  by_head : (b : Bool) → is_some (if b then Some i.point else point_in n images) ≡ true
-      → (is_some (point_in n images) ≡ true → is_some (point_in n (images ++ record { set = m; point = p } ∷ [])) ≡ true)
-      → is_some (if b then Some i.point else point_in n (images ++ record { set = m; point = p } ∷ [])) ≡ true
-  by_head true e ih = refl
-  by_head false e ih = ih e
+still_after n (i ∷ images) m p e = grind (arith, still_after n images m p)
 
 pub gone_dropped : (m n : ℕ) (h : History) → has_image n h ≡ true → has_image n (dropped m h) ≡ false → m ≡ n
 gone_dropped m n h e f = sym (number_is n m (not_false (n == m) (gone_by (λ k. not (k == m)) n h.images e f)))
@@ -105,28 +75,13 @@ image_keeps n m u hs v = each_change (λ x y. has_image n x ≡ true → has_ima
 -- ## the least number of sets
 
 found_least : (test : ℕ → Bool) (a len m : ℕ) → a ≤ m → m < unwrap_or (find test (range_with_len a len)) (a + len) → test m ≡ false
-found_least test a zero m l h = absurd (over a m l h) where
-  over : (a m : ℕ) → a ≤ m → m < a + 0 → ⊥
-  over a m l h = omega arith
-found_least test a (suc len) m l h = by_head (test a) (a == m) refl refl h (found_least test (a + 1) len m) where
-  one_more : (a len : ℕ) → a + suc len ≡ a + 1 + len
-  one_more a len = omega arith
-
-  itself : (a m : ℕ) → a ≤ m → m < a → ⊥
-  itself a m l h = omega arith
-
-  by_head : (b c : Bool) → test a ≡ b → (a == m) ≡ c → m < unwrap_or (if b then Some a else find test (range_with_len (a + 1) len)) (a + suc len)
-      → (a + 1 ≤ m → m < unwrap_or (find test (range_with_len (a + 1) len)) (a + 1 + len) → test m ≡ false) → test m ≡ false
-  by_head true c g i h ih = absurd (itself a m l h)
-  by_head false true g i h ih = subst (λ k. test k ≡ false) (number_is a m i) g
-  by_head false false g i h ih = ih (next_up a m l i) (subst (λ k. m < unwrap_or (find test (range_with_len (a + 1) len)) k) (one_more a len) h)
+found_least test a zero m l h = grind arith
+found_least test a (suc len) m l h = grind (arith, number_is, next_up, found_least test (a + 1) len m)
 
 pub least_sets : (sets slots : ℕ) (ps : List Placed) (v b : ℕ) (hs : List History) (m : ℕ) → m < evicted_up_to sets slots ps v b hs → lacks_slot slots ps v b (gone_up_to m ps hs) ≡ true
 least_sets sets slots ps v b hs m h = not_false _
     (found_least (λ k. not (lacks_slot slots ps v b (gone_up_to k ps hs))) 0 sets m (omega arith)
-    (subst (λ k. m < unwrap_or (find (λ k. not (lacks_slot slots ps v b (gone_up_to k ps hs))) (range_with_len 0 sets)) k) (from_none sets) h)) where
-      from_none : (n : ℕ) → n ≡ 0 + n
-      from_none n = omega arith
+    (subst (λ k. m < unwrap_or (find (λ k. not (lacks_slot slots ps v b (gone_up_to k ps hs))) (range_with_len 0 sets)) k) (omega arith) h))
 
 -- ## a set that fails
 
@@ -174,12 +129,9 @@ module _ (n v : ℕ) where
 
 -- ## a step that is made fails nothing
 
-none_settled_in : (o : Option Agenda) (c : Course) → has_failed c.outcome ≡ false → has_failed (settled_in o c).outcome ≡ false
-none_settled_in o c h = grind arith
-
 pub none_stepped : (now : ℕ) (c : Course) → has_failed c.outcome ≡ false → has_failed (course_stepped true now c).outcome ≡ false
 unfolding posted settled worked
-none_stepped now c h = none_settled_in (worked now c).agenda (worked now c) h
+none_stepped now c h = grind arith
 
 pub made_keeps : (n v : ℕ) (g : Option Group) (u : Option ℕ) (st : State) → stands st n v ≡ true → stands (step_made g u st) n v ≡ true
 made_keeps n v g u st h = grind (arith, image_keeps)

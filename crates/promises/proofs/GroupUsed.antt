@@ -31,9 +31,6 @@ Less h k = InTime h → Shrinks h k
 pub less_same : (h : History) → Less h h
 less_same h t = record { in_time = t; uses = λ n. no_less (used_in n h); needs = λ b e. e }
 
-less_over : (h k l : History) → Less h k → Less k l → Less h l
-less_over h k l f g t = grind arith
-
 less_fewer : (test : Image → Bool) (h : History) → Less h (record { writes = h.writes; images = filter test h.images })
 less_fewer test h t = grind (arith, rising_fewer, fewer_used, fewer_need)
 
@@ -53,7 +50,7 @@ pub less_in_same : (hs : List History) → LessIn hs hs
 less_in_same hs = record { each = λ v. less_same (at hs v); as_many = refl }
 
 pub less_in_over : (hs ks ls : List History) → LessIn hs ks → LessIn ks ls → LessIn hs ls
-less_in_over hs ks ls h g = record { each = λ v. less_over (at hs v) (at ks v) (at ls v) (h.each v) (g.each v); as_many = g.as_many ∙ h.as_many }
+less_in_over hs ks ls h g = record { each = λ v. grind (arith, h.each v, g.each v); as_many = g.as_many ∙ h.as_many }
 
 pub less_in_map : (n : ℕ) (hs : List History) → LessIn hs (map (dropped n) hs)
 less_in_map n hs = record { each = each_map Less less_same (dropped n) (less_dropped n) hs; as_many = as_many_map (dropped n) hs }
@@ -87,14 +84,10 @@ uses_less hs ks h = record { in_time = λ v t. (h.each v t).in_time; uses = λ v
 pub uses_over : (hs ks ls : List History) → UsesNoMore hs ks → UsesNoMore ks ls → UsesNoMore hs ls
 uses_over hs ks ls h g = grind arith
 
--- a new image uses no slot
-image_uses : (m n : ℕ) (h : History) → used_in n (history_cut m h) ≤ used_in n h
-image_uses m n h = grind (arith, cut_used, no_less)
-
 pub uses_image : (m u : ℕ) (hs : List History) → UsesNoMore hs (change_at u (history_cut m) hs)
 uses_image m u hs = record {
   in_time = each_change (λ x y. InTime x → InTime y) (λ x t. t) (history_cut m) (λ x t. rising_cut m 0 (length x.writes) x.images t) u hs;
-  uses = λ v n t. each_change (λ x y. used_in n y ≤ used_in n x) (λ x. no_less (used_in n x)) (history_cut m) (image_uses m n) u hs v;
+  uses = λ v n t. each_change (λ x y. used_in n y ≤ used_in n x) (λ x. no_less (used_in n x)) (history_cut m) (grind (arith, cut_used, no_less)) u hs v;
   as_many = as_many_change (history_cut m) u hs;
 }
 
@@ -123,10 +116,7 @@ group_less (p ∷ ps) (h ∷ hs) (k ∷ ks) f e = by_group p.within (f 0 p.block
 pub group_other : (f : History → History) (u : ℕ) (ps : List Placed) (hs : List History) → within (slice_get ps u) ≡ false → group_used ps (change_at u f hs) ≡ group_used ps hs
 group_other f u [] hs e = refl
 group_other f u (p ∷ ps) [] e = refl
-group_other f zero (p ∷ ps) (h ∷ hs) e = by_group p.within e where
-  by_group : (b : Bool) → b ≡ false → (if b then used_in p.blocks (f h) else 0) + group_used ps hs ≡ (if b then used_in p.blocks h else 0) + group_used ps hs
-  by_group true g = absurd cc
-  by_group false g = refl
+group_other f zero (p ∷ ps) (h ∷ hs) e = grind arith
 group_other f (suc u) (p ∷ ps) (h ∷ hs) e = ap (λ k. (if p.within then used p.blocks h.writes h.images else 0) + k) (group_other f u ps hs e)
 
 -- a volume that uses at most so many more
@@ -134,18 +124,8 @@ pub group_more : (f : History → History) (u extra : ℕ) (ps : List Placed) (h
     → ((n : ℕ) → used_in n (f (at hs u)) ≤ used_in n (at hs u) + extra) → group_used ps (change_at u f hs) ≤ group_used ps hs + extra
 group_more f u extra [] hs g = omega arith
 group_more f u extra (p ∷ ps) [] g = omega arith
-group_more f zero extra (p ∷ ps) (h ∷ hs) g = by_group p.within (g p.blocks) where
-  more : (a b x e : ℕ) → a ≤ b + e → a + x ≤ (b + x) + e
-  more a b x e l = omega arith
-
-  by_group : (b : Bool) → used_in p.blocks (f h) ≤ used_in p.blocks h + extra
-      → (if b then used_in p.blocks (f h) else 0) + group_used ps hs ≤ ((if b then used_in p.blocks h else 0) + group_used ps hs) + extra
-  by_group true l = more (used_in p.blocks (f h)) (used_in p.blocks h) (group_used ps hs) extra l
-  by_group false l = more 0 0 (group_used ps hs) extra (omega arith)
-group_more f (suc u) extra (p ∷ ps) (h ∷ hs) g = more (if p.within then used p.blocks h.writes h.images else 0) (group_used ps (change_at u f hs))
-    (group_used ps hs) extra (group_more f u extra ps hs g) where
-      more : (a x y e : ℕ) → x ≤ y + e → a + x ≤ (a + y) + e
-      more a x y e l = omega arith
+group_more f zero extra (p ∷ ps) (h ∷ hs) g = grind arith
+group_more f (suc u) extra (p ∷ ps) (h ∷ hs) g = grind (arith, group_more f u extra ps hs g)
 
 -- a change that makes its own volume use no more
 pub changed_uses : (f : History → History) (u : ℕ) (hs : List History) → ((n : ℕ) → used_in n (f (at hs u)) ≤ used_in n (at hs u)) → (v n : ℕ)
@@ -166,10 +146,7 @@ none_after m (i ∷ images) h = cond-false (nat_lt m i.set) (i ∷ after_set m i
 needs_none : (m v b : ℕ) (ps : List Placed) (hs : List History) → within (slice_get ps v) ≡ true → UpTo m (at hs v).images → needs_slot_in (slice_get (gone_up_to m ps hs) v) b ≡ false
 needs_none m v b [] hs e up = absurd cc
 needs_none m v b (p ∷ ps) [] e up = refl
-needs_none m zero b (p ∷ ps) (h ∷ hs) e up = by_group p.within e where
-  by_group : (t : Bool) → t ≡ true → needs_slot_in (Some (if t then record { writes = h.writes; images = after_set m h.images } else h)) b ≡ false
-  by_group true f = ap (λ images. needs_slot h.writes images b) (none_after m h.images up)
-  by_group false f = absurd cc
+needs_none m zero b (p ∷ ps) (h ∷ hs) e up = grind (arith, none_after)
 needs_none m (suc v) b (p ∷ ps) (h ∷ hs) e up = needs_none m v b ps hs e up
 
 -- with the images of so many sets gone a write does not lack its slot

@@ -1,6 +1,5 @@
 -- Each set ends, and one that nothing disturbs completes; and so the headline.
-use Rattle.std.proofs.Common.{◌≡◌, ◌∙◌, ℕ, ◌==◌, List, [], ◌∷◌, ◌++◌, Some, None, refl, Bool, true, false, ap, sym, subst, find, arith}
-use Rattle.std.specs.Prelude.{◌&&◌, if◌then◌else◌}
+use Rattle.std.proofs.Common.{◌≡◌, ◌∙◌, ℕ, ◌==◌, List, [], ◌∷◌, ◌++◌, Some, None, refl, true, false, ap, sym, subst, find, arith}
 use Rattle.vss_names.specs.declared.set_outcome.SetOutcome.TheVariants.{Running as RunningSet, Complete as CompleteSet}
 use Rattle.scenario.specs.declared.op.Op.TheVariants as op
 use Rattle.vss_model.specs.Trail.{is_complete as is_complete_trail, is_legal}
@@ -18,13 +17,7 @@ use Rattle.promises.proofs.Words.{frozen_for_set, keeps_set, each_line_once, tra
 
 none_runs : (rows : List SetRow) (n : ℕ) (r : SetRow) → find (λ (q : SetRow). is_running q.result) rows ≡ None → find (λ (q : SetRow). q.number == n) rows ≡ Some r → is_running r.result ≡ false
 none_runs [] n r e f = absurd cc
-none_runs (q ∷ rows) n r e f = by_heads (is_running q.result) (q.number == n) refl e f (none_runs rows n r) where
-  by_heads : (b c : Bool) → is_running q.result ≡ b → (if b then Some q else find (λ (x : SetRow). is_running x.result) rows) ≡ None
-      → (if c then Some q else find (λ (x : SetRow). x.number == n) rows) ≡ Some r
-      → (find (λ (x : SetRow). is_running x.result) rows ≡ None → find (λ (x : SetRow). x.number == n) rows ≡ Some r → is_running r.result ≡ false) → is_running r.result ≡ false
-  by_heads true c g e f ih = absurd cc
-  by_heads false true g e f ih = subst (λ (x : SetRow). is_running x.result ≡ false) (some_same q r f) g
-  by_heads false false g e f ih = ih e f
+none_runs (q ∷ rows) n r e f = grind (arith, some_same, none_runs rows n r)
 
 later_ends : (st : State) (r : SetRow) → in_progress st ≡ None → HasLaterRow st r → HasEnded st r
 later_ends st r e h = record { has = h; over = none_runs st.sets r.number h.row e h.is_row }
@@ -37,9 +30,6 @@ ends_each_set s trail plan legal whole so_far rest n r e f =
 
 -- ## a calm act gives no cause
 
-both_false : (a b : Bool) → (a ≡ true → b ≡ false) → (a && b) ≡ false
-both_false a b f = grind arith
-
 module _ (s : Plan) (st : State) (act : Act) (calm : IsCalm s st act) where
   calm_line : (lane : ℕ) (o : Op) → act.event ≡ Line lane o → line_gives_cause s st lane o ≡ false
   calm_line lane (op.WriteFill v b x) e = loses_none s st v b (λ r f h. calm.has_slots lane (op.WriteFill v b x) (record { volume = v; block = b }) r e refl f h)
@@ -50,48 +40,23 @@ module _ (s : Plan) (st : State) (act : Act) (calm : IsCalm s st act) where
   calm_line lane o e = refl
 
   no_cause : (event : Event) → act.event ≡ event → gives_cause s st event act.mark ≡ false
-  no_cause event e = grind (arith, calm_line, both_false)
+  no_cause event e = grind (arith, calm_line)
 
 -- ## the row that runs is that of the set in progress
 
 runs_found : (k n : ℕ) (rows : List SetRow) (r : SetRow) → OverButNewest rows → find (λ (q : SetRow). q.number == n) rows ≡ Some r → is_running r.result ≡ true
     → find (λ (q : SetRow). is_running q.result) rows ≡ Some r
 runs_found k n [] r h e f = absurd cc
-runs_found k n (q ∷ []) r h e f = alone (q.number == n) e where
-  running : (b : Bool) → b ≡ true → q ≡ r → (if b then Some q else None) ≡ Some r
-  running true e g = ap (λ x. Some x) g
-  running false e g = absurd cc
-
-  alone : (b : Bool) → (if b then Some q else None) ≡ Some r → (if is_running q.result then Some q else None) ≡ Some r
-  alone true e = let same = some_same q r e in running (is_running q.result) (subst (λ (x : SetRow). is_running x.result ≡ true) (sym same) f) same
-  alone false e = absurd cc
-runs_found k n (q ∷ p ∷ rows) r h e f = by_head (q.number == n) e (runs_found k n (p ∷ rows) r h.1) where
-  skip : (b : Bool) → b ≡ false → find (λ (x : SetRow). is_running x.result) (p ∷ rows) ≡ Some r → (if b then Some q else find (λ (x : SetRow). is_running x.result) (p ∷ rows)) ≡ Some r
-  skip true e g = absurd cc
-  skip false e g = g
-
-  clash : is_running r.result ≡ false → ⊥
-  clash g = absurd cc
-
-  by_head : (b : Bool) → (if b then Some q else find (λ (x : SetRow). x.number == n) (p ∷ rows)) ≡ Some r
-      → (find (λ (x : SetRow). x.number == n) (p ∷ rows) ≡ Some r → is_running r.result ≡ true → find (λ (x : SetRow). is_running x.result) (p ∷ rows) ≡ Some r)
-      → (if is_running q.result then Some q else find (λ (x : SetRow). is_running x.result) (p ∷ rows)) ≡ Some r
-  by_head true e ih = absurd (clash (subst (λ (x : SetRow). is_running x.result ≡ false) (some_same q r e) h.0))
-  by_head false e ih = skip (is_running q.result) h.0 (ih e f)
+runs_found k n (q ∷ []) r h e f = grind (arith, some_same)
+runs_found k n (q ∷ p ∷ rows) r h e f = grind (arith, some_same, runs_found k n (p ∷ rows) r h.1)
 
 -- ## a calm set completes
-
-complete_over : (o : SetOutcome) → is_complete o ≡ true → is_running o ≡ false
-complete_over o e = grind arith
 
 stays_complete : (st : State) (r q : SetRow) → is_complete q.result ≡ true → q.number ≡ r.number → IsLaterRow r q → HasLaterRow st q → HasCompleted st r
 stays_complete st r q e num h k = record {
   has = record { row = k.row; is_row = ap (λ n. row_of st n) (sym num) ∙ k.is_row; later = later_again r q k.row h k.later };
-  complete = subst (λ (x : SetRow). is_complete x.result ≡ true) (sym (k.later.over (complete_over q.result e))) e;
+  complete = subst (λ (x : SetRow). is_complete x.result ≡ true) (sym (k.later.over (grind arith))) e;
 }
-
-none_some : (st : State) (r : SetRow) (X : Type 0) → in_progress st ≡ None → in_progress st ≡ Some r → X
-none_some st r X e f = absurd cc
 
 -- what the acts after the first one come to, for the row that stands then
 abbrev Rest : Plan → List Act → List Act → Type 0
@@ -145,7 +110,7 @@ module _ (s : Plan) (so_far rest : List Act) (act : Act) (r : SetRow) (over : in
   now = keeps_rows s so_far act r.number r (row_running 1 (state s so_far).sets r (orderly s so_far).numbered e)
 
 calm_completes : (s : Plan) (so_far rest : List Act) → Rest s so_far rest
-calm_completes s so_far [] r over e calm = none_some (state s so_far) r _ (subst (λ acts. in_progress (state s acts) ≡ None) (append_nothing so_far) over) e
+calm_completes s so_far [] r over e calm = grind (arith, subst (λ acts. in_progress (state s acts) ≡ None) (append_nothing so_far) over)
 calm_completes s so_far (act ∷ rest) r over e calm =
     let here = now s so_far rest act r over e calm in
     by_result s so_far rest act r over e calm here.row.result here refl (calm_completes s (so_far ++ act ∷ []) rest)

@@ -1,17 +1,15 @@
 -- Why an image goes: each act takes an image only for a cause.
-use Rattle.std.proofs.Common.{◌≡◌, ◌∙◌, ℕ, ◌+◌, ◌≤◌, ◌<◌, List, ◌⊎◌, Option, Some, None, refl, Bool, true, false, ap, sym, subst, inl, inr, map, find, length}
-use Rattle.std.proofs.Common.{arith}
+use Rattle.std.proofs.Common.{◌≡◌, ◌∙◌, ℕ, ◌+◌, List, ◌⊎◌, Option, Some, None, refl, Bool, true, false, ap, sym, inl, inr, map, find, length, arith}
 use Rattle.promises.proofs.Words.{Context, Backup, AppRollback, NasRollback, Failed as FailedSet, VssResult, InsufficientStorage, AsyncCancelled, Said, Mark}
-use Rattle.promises.proofs.Words.{Clean, Write, History, point_in, dropped, written, said_of, Group, Session, Op, line_of, target_in, target_of, Plan, slots_of}
+use Rattle.promises.proofs.Words.{Clean, Write, History, point_in, dropped, written, said_of, Group, Session, Op, target_of, Plan, slots_of}
 use Rattle.promises.proofs.Words.{group_of, Event, State, SetRow, Kept, is_running, in_progress, row_of, history_of, has_image, kept_image, row_settled}
 use Rattle.promises.proofs.Words.{followed, runs, failed_in, failed, NumberedFrom, has_failed, Act, enabled, idle_now, after, state, row_number, kept_point}
 use Rattle.promises.proofs.Words.{true_not_false, orderly, at, FewerIn, fewer_written, fewer_in_same, fewer_in_change, fewer_in_over, fewer_images_dropped}
 use Rattle.promises.proofs.Words.{Covers, covered, after_enabled, after_not_enabled, false_from_ne_true, Course, answered as course_answered}
 use Rattle.promises.proofs.Words.{stepped as course_stepped, timed as course_timed, change_at, Line, Provider, Idle, going_up_to, set_loses_image, is_backup}
 use Rattle.promises.proofs.Words.{Replied, cleared, with_room_if, with_room, put, write, reverted_as, images_released, closed, step_made, stepped_as, ticked}
-use Rattle.promises.proofs.Words.{later, stands, Fails, IsWanted, Takes, TakesBy, ImagesGoForCause, course-step_made}
+use Rattle.promises.proofs.Words.{later, stands, Fails, IsWanted, Takes, ImagesGoForCause, course-step_made}
 use Rattle.scenario.specs.declared.op.Op.TheVariants as op
-use Rattle.scenario.specs.declared.line.Line.{Line as Does}
 use Rattle.vss_model.specs.declared.event.Event.TheVariants.{Answer as AnswerEvent}
 use Rattle.vss_model.proofs.StateForm.{answered, stepped}
 use Rattle.promises.specs.Gone.{IsOfSession}
@@ -72,14 +70,9 @@ module _ (s : Plan) (st : State) (num : NumberedFrom 1 st.sets) (n v : ℕ) wher
         (volumes_room (set_loses_image (in_progress st) st.volumes roomy.volumes) roomy) (volumes_put u w mark (with_room s u w.block st)) in
         record {
           shared = went.0;
-          needed = λ m l. least_sets (length st.sets) (slots_of s u) (group_of s u) u w.block st.volumes m (less m n most l went.1);
-          together = λ m x l i. false_from_ne_true (stands written_to m x) (λ f. over most m n (left_in_group most m (group_of s u) st.volumes x i ((fewer.each x).sets m f)) l went.1);
-        } where
-          less : (a b c : ℕ) → a < b → b ≤ c → a < c
-          less a b c l h = omega arith
-
-          over : (g m n : ℕ) → g < m → m ≤ n → n ≤ g → ⊥
-          over g m n l h i = omega arith
+          needed = λ m l. least_sets (length st.sets) (slots_of s u) (group_of s u) u w.block st.volumes m (grind (arith, went.1));
+          together = λ m x l i. false_from_ne_true (stands written_to m x) (λ f. grind (arith, left_in_group most m (group_of s u) st.volumes x i ((fewer.each x).sets m f), went.1));
+        }
 
     pub wants_or_fails : (b : Bool) (c : Bool) → stands roomy n v ≡ c → stands st n v ≡ true → stands (put u w mark (with_room_if b roomy)) n v ≡ false
         → Fails st (put u w mark (with_room_if b roomy)) n ⊎ (stands roomy n v ≡ false)
@@ -95,11 +88,8 @@ module _ (s : Plan) (st : State) (num : NumberedFrom 1 st.sets) (n v : ℕ) wher
     write_goes : stands st n v ≡ true → stands written_to n v ≡ false → Fails st written_to n ⊎ IsWanted s st written_to u w.block n v
     write_goes h g = grind (arith, wants_or_fails, wanted)
 
-  takes_by : (l : Does) (u : ℕ) (w : Write) (x : State) → target_in l ≡ Some (record { volume = u; block = w.block }) → IsWanted s st x u w.block n v → TakesBy s st x n v l
-  takes_by l u w x e i = grind arith
-
   takes_write : (lane : ℕ) (o : Op) (u : ℕ) (w : Write) (x : State) → target_of o ≡ Some (record { volume = u; block = w.block }) → IsWanted s st x u w.block n v → Takes s st x n v (Line lane o)
-  takes_write lane o u w x e i = takes_by (line_of o) u w x e i
+  takes_write lane o u w x e i = grind arith
 
   on_write : (lane : ℕ) (o : Op) (u : ℕ) (w : Write) (mark : Mark) → target_of o ≡ Some (record { volume = u; block = w.block }) → Goes (Line lane o) mark (write s u w mark st)
   unfolding write
@@ -185,9 +175,7 @@ module _ (s : Plan) (st : State) (num : NumberedFrom 1 st.sets) (n v : ℕ) wher
   }
 
   goes_if : (b : Bool) (act : Act) → enabled s st act.event ≡ b → stands st n v ≡ true → stands (after s st act) n v ≡ false → Cause act.event (after s st act)
-  goes_if true act e h g =
-      let next = after_enabled s st act e in
-      subst (Cause act.event) (sym next) (covered Goes s st goes act.event act.mark e h (ap (λ (x : State). stands x n v) (sym next) ∙ g))
+  goes_if true act e h g = grind (arith, after_enabled, covered, goes)
   goes_if false act e h g = absurd (true_not_false (stands st n v) h (ap (λ (x : State). stands x n v) (sym (after_not_enabled s st act e)) ∙ g))
 
   pub goes_in : (act : Act) → stands st n v ≡ true → stands (after s st act) n v ≡ false → Cause act.event (after s st act)

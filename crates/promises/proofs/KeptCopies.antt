@@ -2,7 +2,7 @@
 use Rattle.std.proofs.Common.{◌≡◌, ◌∙◌, ℕ, ◌+◌, ◌-◌, ◌==◌, ◌<◌, ◌≤◌, zero, suc, List, [], ◌∷◌, ◌++◌, Option, Some, None, refl, Bool, true, false, ap, sym, map, filter, take, drop, length, arith}
 use Rattle.std.specs.Prelude.{◌&&◌, ◌||◌, not, nat_lt, nat_le, if◌then◌else◌, slice_get}
 use Rattle.promises.proofs.Words.{list_any, range_with_len, list_any-append, Write, Image, History, point_in, AreLater, AreInTime, names, blocks_named, Placed}
-use Rattle.promises.proofs.Words.{Copy, copy_of, named, writes_since, copies_of, copies_from, VolumeRow, Plan, blocks_in, blocks_of, placed, placed_in}
+use Rattle.promises.proofs.Words.{Copy, copy_of, named, writes_since, copies_of, copies_from, VolumeRow, Plan, blocks_in, placed}
 use Rattle.promises.proofs.Words.{is_among, Act, images_in_time, at, place_from, is_cut_by, is_overwritten, is_copy, are_once, KeepsCopies, within, and-false}
 use Rattle.promises.proofs.Words.{some_same, and_from, and_parts, or-false, true_not_false}
 use Rattle.promises.proofs.Members.{same_number, none_passes, range_passes, beyond, still_less}
@@ -12,31 +12,18 @@ use Rattle.promises.proofs.Contents.{later_set, InTimeAll}
 
 any_other : (k u n b : ℕ) (ws : List Write) (i : Image) (bs : List ℕ) → ((k == u) && (i.set == n)) ≡ false → list_any (is_copy u n b) (map (copy_of k ws i) bs) ≡ false
 any_other k u n b ws i [] e = refl
-any_other k u n b ws i (x ∷ bs) e = ap (λ c. c || list_any (is_copy u n b) (map (copy_of k ws i) bs)) (by_parts (k == u) (i.set == n) e) ∙ any_other k u n b ws i bs e
-  where
-    by_parts : (a c : Bool) → (a && c) ≡ false → (a && c && (x == b)) ≡ false
-    by_parts true true e = absurd cc
-    by_parts true false e = refl
-    by_parts false c e = refl
+any_other k u n b ws i (x ∷ bs) e = grind (arith, any_other k u n b ws i bs e)
 
 any_own : (k u n b : ℕ) (ws : List Write) (i : Image) (bs : List ℕ) → (k == u) ≡ true → (i.set == n) ≡ true → list_any (is_copy u n b) (map (copy_of k ws i) bs) ≡ is_among b bs
 any_own k u n b ws i [] e f = refl
-any_own k u n b ws i (x ∷ bs) e f =
-    ap (λ c. (c && (i.set == n) && (x == b)) || list_any (is_copy u n b) (map (copy_of k ws i) bs)) e
-    ∙ ap (λ c. (c && (x == b)) || list_any (is_copy u n b) (map (copy_of k ws i) bs)) f
-    ∙ ap (λ c. (x == b) || c) (any_own k u n b ws i bs e f)
+any_own k u n b ws i (x ∷ bs) e f = grind (arith, any_own k u n b ws i bs e f)
 
 -- ## which blocks are overwritten
 
 -- no image of a later set comes
 overwritten_by : (n b : ℕ) (images : List Image) (i : ℕ) (ws : List Write) → ((j : ℕ) → is_cut_by n j images ≡ false) → names ws b ≡ is_overwritten n b images i ws
 overwritten_by n b images i [] f = refl
-overwritten_by n b images i (w ∷ ws) f =
-    ap (λ c. c || names ws b) (plain (w.block == b) ∙ ap (λ c. (w.block == b) && not c) (sym (f i)))
-    ∙ ap (λ c. ((w.block == b) && not (is_cut_by n i images)) || c) (overwritten_by n b images (i + 1) ws f) where
-      plain : (c : Bool) → c ≡ (c && true)
-      plain true = refl
-      plain false = refl
+overwritten_by n b images i (w ∷ ws) f = grind (arith, overwritten_by n b images (i + 1) ws f)
 
 -- one is cut at q writes
 overwritten_up_to : (n b q : ℕ) (images : List Image) (i : ℕ) (ws : List Write) → ((j : ℕ) → is_cut_by n j images ≡ nat_le q j)
@@ -84,60 +71,30 @@ overwritten_along n b x images i ws e = grind arith
 -- later images come at no fewer writes
 later_cuts : (n j : ℕ) (x : Image) (images : List Image) → AreLater x images → is_cut_by n j images ≡ true → nat_le x.point j ≡ true
 later_cuts n j x [] h e = absurd cc
-later_cuts n j x (y ∷ images) h e = by_head (nat_lt n y.set) (nat_le y.point j) refl e (later_cuts n j x images h.2) where
-  before : (a c j : ℕ) → a ≤ c → nat_le c j ≡ true → nat_le a j ≡ true
-  before a c j l e = grind arith
-
-  by_head : (a c : Bool) → nat_le y.point j ≡ c → ((a && c) || is_cut_by n j images) ≡ true → (is_cut_by n j images ≡ true → nat_le x.point j ≡ true) → nat_le x.point j ≡ true
-  by_head true true f e ih = before x.point y.point j h.1 f
-  by_head true false f e ih = ih e
-  by_head false c f e ih = ih e
-
-next_cut : (n j : ℕ) (x : Image) (images : List Image) → AreLater x images → nat_lt n x.set ≡ true → is_cut_by n j (x ∷ images) ≡ nat_le x.point j
-next_cut n j x images h e = grind (arith, later_cuts)
+later_cuts n j x (y ∷ images) h e = grind (arith, later_cuts n j x images h.2)
 
 -- ## the copies of a volume
 
 no_image : (k u n b m : ℕ) (ws : List Write) (images : List Image) → point_in n images ≡ None → list_any (is_copy u n b) (copies_of k m ws images) ≡ false
 no_image k u n b m ws [] e = refl
-no_image k u n b m ws (i ∷ newer) e = by_set (i.set == n) refl e (no_image k u n b m ws newer) where
-  by_set : (c : Bool) → (i.set == n) ≡ c → (if c then Some i.point else point_in n newer) ≡ None
-      → (point_in n newer ≡ None → list_any (is_copy u n b) (copies_of k m ws newer) ≡ false) → list_any (is_copy u n b) (copies_of k m ws (i ∷ newer)) ≡ false
-  by_set true f e ih = absurd cc
-  by_set false f e ih =
-      list_any-append (is_copy u n b) (map (copy_of k ws i) (named m ws i newer)) (copies_of k m ws newer)
-      ∙ ap (λ c. c || list_any (is_copy u n b) (copies_of k m ws newer)) (any_other k u n b ws i (named m ws i newer) (ap (λ c. (k == u) && c) f ∙ and-false (k == u)))
-      ∙ ih e
+no_image k u n b m ws (i ∷ newer) e = grind (arith, list_any-append, any_other, and-false, no_image k u n b m ws newer)
 
 other_volume : (k u n b m : ℕ) (ws : List Write) (images : List Image) → (k == u) ≡ false → list_any (is_copy u n b) (copies_of k m ws images) ≡ false
 other_volume k u n b m ws [] e = refl
-other_volume k u n b m ws (i ∷ newer) e =
-    list_any-append (is_copy u n b) (map (copy_of k ws i) (named m ws i newer)) (copies_of k m ws newer)
-    ∙ ap (λ c. c || list_any (is_copy u n b) (copies_of k m ws newer)) (any_other k u n b ws i (named m ws i newer) (ap (λ c. c && (i.set == n)) e))
-    ∙ other_volume k u n b m ws newer e
+other_volume k u n b m ws (i ∷ newer) e = grind (arith, list_any-append, any_other, other_volume k u n b m ws newer e)
 
 -- no later image is of the same set
 none_of_set : (i : Image) (images : List Image) (n : ℕ) → AreLater i images → (i.set == n) ≡ true → point_in n images ≡ None
 none_of_set i images n h e = grind (arith, true_not_false, later_set)
 
-not_later : (n : ℕ) (i : Image) → (i.set == n) ≡ true → nat_lt n i.set ≡ false
-not_later n i e = grind arith
-
 -- of an image that comes before the one of set n
 pub earlier : (n p : ℕ) (i : Image) (images : List Image) → AreLater i images → point_in n images ≡ Some p → nat_lt n i.set ≡ false
 earlier n p i [] h e = absurd cc
-earlier n p i (j ∷ images) h e = by_head (j.set == n) refl e (earlier n p i images h.2) where
-  below : (a c n : ℕ) → a < c → (c == n) ≡ true → nat_lt n a ≡ false
-  below a c n l e = grind arith
-
-  by_head : (c : Bool) → (j.set == n) ≡ c → (if c then Some j.point else point_in n images) ≡ Some p → (point_in n images ≡ Some p → nat_lt n i.set ≡ false)
-      → nat_lt n i.set ≡ false
-  by_head true f e ih = below i.set j.set n h.0 f
-  by_head false f e ih = ih e
+earlier n p i (j ∷ images) h e = grind (arith, earlier n p i images h.2)
 
 pub since_cut : (n b : ℕ) (ws : List Write) (i : Image) (newer : List Image) → AreLater i newer → AreInTime (length ws) newer → (i.set == n) ≡ true
     → names (writes_since ws i.point newer) b ≡ is_overwritten n b (i ∷ newer) i.point (drop i.point ws)
-since_cut n b ws i newer h t e = grind (arith, overwritten_by, not_later, overwritten_up_to, next_cut)
+since_cut n b ws i newer h t e = grind (arith, overwritten_by, overwritten_up_to, later_cuts)
 
 among_named : (m b : ℕ) (ws : List Write) → b < m → is_among b (blocks_named m ws) ≡ names ws b
 among_named m b ws l = grind (arith, range_passes)
@@ -172,13 +129,7 @@ blocks_at (Some p) = p.blocks
 place_least : (k : ℕ) (ps : List Placed) (u : ℕ) → k ≤ place_from k ps u
 place_least k [] u = omega arith
 place_least k (p ∷ ps) zero = omega arith
-place_least k (p ∷ ps) (suc u) = by_group p.within (λ j. place_least j ps u) where
-  next : (k n : ℕ) → k + 1 ≤ n → k ≤ n
-  next k n l = omega arith
-
-  by_group : (c : Bool) → ((j : ℕ) → j ≤ place_from j ps u) → k ≤ place_from (if c then k + 1 else k) ps u
-  by_group true ih = next k (place_from (k + 1) ps u) (ih (k + 1))
-  by_group false ih = ih k
+place_least k (p ∷ ps) (suc u) = grind (arith, λ (j : ℕ). place_least j ps u)
 
 none_below : (j k n b : ℕ) (ps : List Placed) (hs : List History) → k < j → list_any (is_copy k n b) (copies_from j ps hs) ≡ false
 none_below j k n b [] hs l = refl
@@ -198,31 +149,20 @@ exactly_in : (k : ℕ) (ps : List Placed) (hs : List History) (u n b p : ℕ) �
 exactly_in k [] hs u n b p t e l f = absurd cc
 exactly_in k (x ∷ ps) [] u n b p t e l f = absurd cc
 exactly_in k (x ∷ ps) (h ∷ hs) zero n b p t e l f = by_group x.within e where
-  next : (k : ℕ) → k < k + 1
-  next k = omega arith
-
   by_group : (c : Bool) → c ≡ true
       → list_any (is_copy k n b) (if c then copies_of k x.blocks h.writes h.images ++ copies_from (k + 1) ps hs else copies_from k ps hs) ≡ is_overwritten n b h.images p (drop p h.writes)
   by_group true g =
       list_any-append (is_copy k n b) (copies_of k x.blocks h.writes h.images) (copies_from (k + 1) ps hs)
-      ∙ ap (λ c. list_any (is_copy k n b) (copies_of k x.blocks h.writes h.images) || c) (none_below (k + 1) k n b ps hs (next k))
+      ∙ ap (λ c. list_any (is_copy k n b) (copies_of k x.blocks h.writes h.images) || c) (none_below (k + 1) k n b ps hs (omega arith))
       ∙ or-false (list_any (is_copy k n b) (copies_of k x.blocks h.writes h.images))
       ∙ exactly_of k n b x.blocks p h.writes h.images (t 0) f l
   by_group false g = absurd cc
 exactly_in k (x ∷ ps) (h ∷ hs) (suc u) n b p t e l f = by_group x.within (λ j. exactly_in j ps hs u n b p (λ v. t (suc v)) e l f) where
-  before : (k n : ℕ) → k + 1 ≤ n → (k == n) ≡ false
-  before k n l = grind arith
-
   by_group : (c : Bool) → ((j : ℕ) → list_any (is_copy (place_from j ps u) n b) (copies_from j ps hs) ≡ is_overwritten n b (at hs u).images p (drop p (at hs u).writes))
       → list_any (is_copy (place_from (if c then k + 1 else k) ps u) n b)
       (if c then copies_of k x.blocks h.writes h.images ++ copies_from (k + 1) ps hs else copies_from k ps hs)
       ≡ is_overwritten n b (at hs u).images p (drop p (at hs u).writes)
-  by_group true ih =
-      list_any-append (is_copy (place_from (k + 1) ps u) n b) (copies_of k x.blocks h.writes h.images) (copies_from (k + 1) ps hs)
-      ∙ ap (λ c. c || list_any (is_copy (place_from (k + 1) ps u) n b) (copies_from (k + 1) ps hs))
-      (other_volume k (place_from (k + 1) ps u) n b x.blocks h.writes h.images (before k (place_from (k + 1) ps u) (place_least (k + 1) ps u)))
-      ∙ ih (k + 1)
-  by_group false ih = ih k
+  by_group c ih = grind (arith, list_any-append, other_volume, place_least)
 
 -- ## none twice
 
@@ -232,29 +172,11 @@ NotAmong ys (c ∷ cs) = (list_any (is_copy c.volume c.set c.block) ys ≡ false
 
 once_both : (xs ys : List Copy) → are_once xs ≡ true → are_once ys ≡ true → NotAmong ys xs → are_once (xs ++ ys) ≡ true
 once_both [] ys e f h = f
-once_both (c ∷ xs) ys e f h =
-    let parts = and_parts (not (list_any (is_copy c.volume c.set c.block) xs)) (are_once xs) e in
-    and_from (not (list_any (is_copy c.volume c.set c.block) (xs ++ ys))) (are_once (xs ++ ys))
-    (ap not (list_any-append (is_copy c.volume c.set c.block) xs ys) ∙ ap (λ b. not (list_any (is_copy c.volume c.set c.block) xs || b)) h.0
-    ∙ or_none (list_any (is_copy c.volume c.set c.block) xs) parts.0)
-    (once_both xs ys parts.1 f h.1) where
-      or_none : (b : Bool) → not b ≡ true → not (b || false) ≡ true
-      or_none true g = g
-      or_none false g = g
+once_both (c ∷ xs) ys e f h = grind (arith, and_parts, and_from, list_any-append, once_both xs ys (grind arith) f h.1)
 
 once_range : (k : ℕ) (ws : List Write) (i : Image) (test : ℕ → Bool) (a n : ℕ) → are_once (map (copy_of k ws i) (filter test (range_with_len a n))) ≡ true
 once_range k ws i test a zero = refl
-once_range k ws i test a (suc n) = by_test (test a) (once_range k ws i test (a + 1) n) where
-  next : (a : ℕ) → a < a + 1
-  next a = omega arith
-
-  by_test : (c : Bool) → are_once (map (copy_of k ws i) (filter test (range_with_len (a + 1) n))) ≡ true
-      → are_once (map (copy_of k ws i) (if c then a ∷ filter test (range_with_len (a + 1) n) else filter test (range_with_len (a + 1) n))) ≡ true
-  by_test true ih =
-      and_from (not (list_any (is_copy k i.set a) (map (copy_of k ws i) (filter test (range_with_len (a + 1) n))))) (are_once (map (copy_of k ws i) (filter test (range_with_len (a + 1) n))))
-      (ap not (any_own k k i.set a ws i (filter test (range_with_len (a + 1) n)) (same_number k) (same_number i.set) ∙ none_passes test (a + 1) n a (next a)))
-      ih
-  by_test false ih = ih
+once_range k ws i test a (suc n) = grind (arith, and_from, any_own, same_number, none_passes, once_range k ws i test (a + 1) n)
 
 not_newer : (k m : ℕ) (ws : List Write) (i : Image) (newer : List Image) (bs : List ℕ) → AreLater i newer → NotAmong (copies_of k m ws newer) (map (copy_of k ws i) bs)
 not_newer k m ws i newer [] h = tt
@@ -269,12 +191,9 @@ once_of k m most ws (i ∷ newer) t =
 not_below : (k m : ℕ) (ws : List Write) (images : List Image) (ps : List Placed) (hs : List History) → NotAmong (copies_from (k + 1) ps hs) (copies_of k m ws images)
 not_below k m ws [] ps hs = tt
 not_below k m ws (i ∷ newer) ps hs = over (not_below k m ws newer ps hs) (named m ws i newer) where
-  next : (k : ℕ) → k < k + 1
-  next k = omega arith
-
   over : NotAmong (copies_from (k + 1) ps hs) (copies_of k m ws newer) → (bs : List ℕ) → NotAmong (copies_from (k + 1) ps hs) (map (copy_of k ws i) bs ++ copies_of k m ws newer)
   over ih [] = ih
-  over ih (b ∷ bs) = (none_below (k + 1) k i.set b ps hs (next k), over ih bs)
+  over ih (b ∷ bs) = (none_below (k + 1) k i.set b ps hs (omega arith), over ih bs)
 
 once_in : (k : ℕ) (ps : List Placed) (hs : List History) → InTimeAll hs → are_once (copies_from k ps hs) ≡ true
 once_in k [] hs t = refl
@@ -293,8 +212,5 @@ blocks_placed g [] u = refl
 blocks_placed g (r ∷ rows) zero = refl
 blocks_placed g (r ∷ rows) (suc u) = blocks_placed g rows u
 
-blocks_same : (s : Plan) (u : ℕ) (o : Option VolumeRow) → within (slice_get (placed_in s.volumes o) u) ≡ true → blocks_at (slice_get (placed_in s.volumes o) u) ≡ blocks_of s u
-blocks_same s u o e = grind (arith, blocks_placed)
-
 pub keeps_copies : (s : Plan) (so_far : List Act) → KeepsCopies s so_far
-keeps_copies s so_far = grind (arith, exactly_in, images_in_time, blocks_same, once_in)
+keeps_copies s so_far = grind (arith, exactly_in, images_in_time, blocks_placed, once_in)

@@ -3,10 +3,9 @@ use Rattle.promises.proofs.Words.{and_left, Context, VssResult, AsyncFinished, A
 use Rattle.promises.proofs.Words.{next_volume, Course, Session, makes_set, opened, agenda_ended, set_failed, Op, is_begin, begins_agenda, Target, target_of}
 use Rattle.promises.proofs.Words.{Plan, Event, Reply, Fine, Coded, Deleted, Idled, State, start, in_progress, left_now, runs, failed, Replied, write}
 use Rattle.promises.proofs.Words.{reverted_as, has_failed, Act, order_of_writer, enabled, answer_reply, step_reply, idle_now, after, state, state-append}
-use Rattle.promises.proofs.Words.{set_failure, begins_session, begins, result_by, result_after, result_if, result_from, last_result, Covers, ChangesNothing}
-use Rattle.promises.proofs.Words.{after_not_enabled, told_covered, some_same, by_last, check, is_blocked, happens, reply_is, Owns, result_told, AwaitTells}
-use Rattle.promises.proofs.Words.{called}
-use Rattle.std.proofs.Common.{◌≡◌, ◌∙◌, ℕ, List, [], ◌∷◌, ◌++◌, Option, Some, None, refl, Bool, true, false, ap, sym, subst, inl, inr, fold, arith}
+use Rattle.promises.proofs.Words.{set_failure, begins_session, begins, result_by, result_after, result_if, result_from, last_result, Covers}
+use Rattle.promises.proofs.Words.{after_not_enabled, told_covered, some_same, by_last, check, is_blocked, reply_is, Owns, result_told, AwaitTells, called}
+use Rattle.std.proofs.Common.{◌≡◌, ◌∙◌, ℕ, List, [], ◌∷◌, ◌++◌, Option, Some, None, refl, Bool, true, false, ap, sym, inl, inr, fold, arith}
 use Rattle.std.specs.Prelude.{◌&&◌, ◌||◌, not, option_map}
 use Rattle.vss_model.specs.declared.event.Event.TheVariants.{Line, Answer as AnswerEvent, Provider, Idle}
 use Rattle.vss_model.proofs.StateForm.{start_set, pending, closed}
@@ -18,12 +17,6 @@ use Rattle.scenario.specs.declared.op.Op.TheVariants as op
 use Rattle.requestor.specs.declared.session_call.SessionCall.TheVariants as call
 
 -- ## lines that end nothing
-
-no_begin : (o : Op) (told : Reply) → ChangesNothing o told → begins_session (Line 0 o) told ≡ false
-no_begin o told g = grind arith
-
-no_agenda : (o : Op) (told : Reply) → ChangesNothing o told → begins (Line 0 o) told ≡ false
-no_agenda o told g = grind arith
 
 write_begins : (o : Op) (t : Target) → target_of o ≡ Some t → (is_begin o ≡ false) × (begins_agenda o ≡ false)
 write_begins o t e = grind arith
@@ -101,7 +94,7 @@ module _ (s : Plan) (so_far : List Act) (last : Option VssResult) where
 
     lasts : Covers Next s st
     lasts = record {
-      stays = λ lane o mark told e f. quiet (Line lane o) told st (no_begin o told f) (no_agenda o told f) refl (λ n. refl) refl;
+      stays = λ lane o mark told e f. quiet (Line lane o) told st (grind arith) (grind arith) refl (λ n. refl) refl;
       writes = λ lane o v w mark e f. on_write lane o _ v w mark e;
       reverts = λ lane n v k mark e f. goes (Line lane (op.Revert n v)) (reverted_as s v k mark st).0 _ refl refl (revert_turn s so_far v k mark);
       deletes_set = λ lane n c mark e. quiet (Line lane (op.DeleteSet n)) (Deleted c) _ refl refl refl (λ m. refl) refl;
@@ -124,8 +117,7 @@ module _ (s : Plan) (so_far : List Act) (last : Option VssResult) where
     }
 
     last_if : (b : Bool) (act : Act) → enabled s st act.event ≡ b → IsLast (after s st act) (result_if b s st last act)
-    last_if true act e = told_covered Next s st lasts act e
-    last_if false act e = subst (λ x. IsLast x last) (sym (after_not_enabled s st act e)) h
+    last_if b act e = grind (arith, told_covered, lasts, after_not_enabled)
 
 -- ## every list of acts
 
@@ -153,8 +145,4 @@ module _ (s : Plan) (st : State) (lane : ℕ) (q : Session) (own : Owns st lane 
   await_reply b e f = grind arith
 
 pub await_tells : (s : Plan) (so_far : List Act) (act : Act) → AwaitTells s so_far act
-await_tells s so_far act lane q e on own =
-    let st = state s so_far in
-    reply_is s st act ∙ ap (λ x. (happens s x act.mark st).0) e
-    ∙ await_reply s st lane q own (runs st) refl (ap (enabled s st) (sym e) ∙ on)
-    ∙ ap result_told (last_all s so_far q own.stands)
+await_tells s so_far act lane q e on own = grind (arith, reply_is, await_reply, last_all)

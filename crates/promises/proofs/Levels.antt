@@ -1,9 +1,9 @@
 -- The levels and the freeze time-outs of the writers' rows, and the levels of the participants, are those that the scenario gives the writers.
 use Rattle.promises.proofs.Words.{Level, Order, VssResult, Said, WriterRow, row_aborted, row_gathered, row_ended, Member, IsKeptInCourse, Plan}
 use Rattle.promises.proofs.Words.{WriterPlan, row_of_writer, Act, state, timeout_in, timeout_of, HasItsNumbers, level_in, level_of}
-use Rattle.std.proofs.Common.{◌≡◌, ◌∙◌, ℕ, ◌+◌, ◌≤◌, zero, suc, sym, List, [], ◌∷◌, ◌++◌, Some, refl, Bool, true, false, ap, map, arith}
+use Rattle.std.proofs.Common.{◌≡◌, ◌∙◌, ℕ, ◌+◌, ◌≤◌, zero, suc, sym, List, [], ◌∷◌, Some, refl, Bool, ap, map, arith}
 use Rattle.std.specs.Prelude.{slice_get}
-use Rattle.set_agenda.specs.Course.{Course, posted, rows_where, row_if, member_if, members_from, is_member, failed as course_failed, told, worked, released}
+use Rattle.set_agenda.specs.Course.{Course, posted, rows_where, members_from, is_member, failed as course_failed, told, worked, released}
 use Rattle.vss_model.proofs.Rules.{IsKeptByCalls, of_course}
 use Rattle.promises.proofs.Members.{no_less, one_on}
 
@@ -14,16 +14,11 @@ Ascends w (m ∷ ms) = (w ≤ m.writer) × Ascends (m.writer + 1) ms
 
 ascends_from : (w : ℕ) (ms : List Member) → Ascends (w + 1) ms → Ascends w ms
 ascends_from w [] h = tt
-ascends_from w (m ∷ ms) h = (less w m.writer h.0, h.1) where
-  less : (a b : ℕ) → a + 1 ≤ b → a ≤ b
-  less a b h = omega arith
+ascends_from w (m ∷ ms) h = grind arith
 
 ascend_of_rows : (test : ℕ → Bool) (w : ℕ) (rs : List WriterRow) → Ascends w (members_from test w rs)
 ascend_of_rows test w [] = tt
-ascend_of_rows test w (r ∷ rs) = by_test (test w) (ascend_of_rows test (w + 1) rs) where
-  by_test : (b : Bool) → Ascends (w + 1) (members_from test (w + 1) rs) → Ascends w (member_if b w r ++ members_from test (w + 1) rs)
-  by_test true h = (no_less w, h)
-  by_test false h = ascends_from w (members_from test (w + 1) rs) h
+ascend_of_rows test w (r ∷ rs) = grind (arith, no_less, ascends_from, ascend_of_rows test (w + 1) rs)
 
 -- a change of a row that keeps its level and its time-out
 abbrev Same : WriterRow → WriterRow → Type 0
@@ -45,17 +40,11 @@ module _ (l : ℕ → Level) (limit : ℕ → ℕ) where
 
   rows_some : (f : WriterRow → WriterRow) → ((r : WriterRow) → Same r (f r)) → (test : ℕ → Bool) (w u : ℕ) (rs : List WriterRow) → RowsOf w rs → RowsOf w (rows_where f test u rs)
   rows_some f e test w u [] h = tt
-  rows_some f e test w u (r ∷ rs) h = (((by_test (test u)).0 ∙ h.0.0, (by_test (test u)).1 ∙ h.0.1), rows_some f e test (w + 1) (u + 1) rs h.1) where
-    by_test : (b : Bool) → Same r (row_if b f r)
-    by_test true = e r
-    by_test false = (refl, refl)
+  rows_some f e test w u (r ∷ rs) h = grind (arith, rows_some f e test (w + 1) (u + 1) rs h.1)
 
   members_of_rows : (test : ℕ → Bool) (w : ℕ) (rs : List WriterRow) → RowsOf w rs → MembersOf l (members_from test w rs)
   members_of_rows test w [] h = tt
-  members_of_rows test w (r ∷ rs) h = by_test (test w) (members_of_rows test (w + 1) rs h.1) where
-    by_test : (b : Bool) → MembersOf l (members_from test (w + 1) rs) → MembersOf l (member_if b w r ++ members_from test (w + 1) rs)
-    by_test true ms = (h.0.0, ms)
-    by_test false ms = ms
+  members_of_rows test w (r ∷ rs) h = grind (arith, members_of_rows test (w + 1) rs h.1)
 
   aborted_same : (r : WriterRow) → Same r (row_aborted r)
   aborted_same r = grind arith
@@ -143,9 +132,7 @@ own_timeout s w p e = ap timeout_in e
 
 row_at : (s : Plan) (rows : List WriterRow) (k w : ℕ) (r : WriterRow) → RowsOf (level_of s) (timeout_of s) k rows → slice_get rows w ≡ Some r → r.limit ≡ timeout_of s (k + w)
 row_at s [] k w r h e = absurd cc
-row_at s (q ∷ rows) k zero r h e = let same : q ≡ r = cc in ap (λ (x : WriterRow). x.limit) (sym same) ∙ h.0.1 ∙ ap (timeout_of s) (none_after k) where
-  none_after : (k : ℕ) → k ≡ k + 0
-  none_after k = omega arith
+row_at s (q ∷ rows) k zero r h e = grind arith
 row_at s (q ∷ rows) k (suc w) r h e = row_at s rows (k + 1) w r h.1 e ∙ ap (timeout_of s) (one_on k w)
 
 pub has_its_numbers : (s : Plan) (so_far : List Act) → HasItsNumbers s so_far

@@ -4,8 +4,8 @@ use Rattle.promises.proofs.Words.{left, groups_left, order_of, order_now, Runnin
 use Rattle.promises.proofs.Words.{hold_running, running_at, running_limits, spent_of, same_running, first_found, later_found, none_and_some, limit_found, hold_found, held_here, frozen_here}
 use Rattle.promises.proofs.Words.{asked_here, has_failed, has_passed, last_of, holds_volumes, is_hold_step, freezes_writers, prepares_snapshot, prepares_writers, frozen_too_long, unanswered_too_long}
 use Rattle.promises.proofs.Words.{Decides, same_hold, same_hold_step, same_freeze, freeze_since, answer_since}
-use Rattle.std.proofs.Common.{◌≡◌, ◌∙◌, ℕ, ◌+◌, List, [], ◌∷◌, ◌++◌, Option, Some, None, refl, Bool, true, false, sym, subst, filter, find, fold, min, arith}
-use Rattle.std.specs.Prelude.{◌&&◌, ◌||◌, nat_lt, option_map, if◌then◌else◌, slice_get}
+use Rattle.std.proofs.Common.{◌≡◌, ◌∙◌, ℕ, List, [], ◌∷◌, ◌++◌, Option, Some, None, refl, Bool, true, false, sym, subst, filter, find, fold, min, arith}
+use Rattle.std.specs.Prelude.{◌&&◌, ◌||◌, option_map, if◌then◌else◌, slice_get}
 use Rattle.std.proofs.lemmas.Bool.{and_parts}
 use Rattle.set_agenda.specs.declared.limit.Limit.TheVariants.{Hold as HoldLimit, Freeze as FreezeLimit, Answer as AnswerLimit}
 use Rattle.set_agenda.specs.Course.{Course, posted, failed as course_failed, limit_of, freeze_limit, limits_now, fails_set as decides, treated_as, treated, timed as course_timed}
@@ -38,9 +38,6 @@ treated_fails : (x : Limit) (now : ℕ) (c : Course) → Decides x (order_now (l
 unfolding course_failed
 treated_fails x now c d = grind arith
 
-consent_runs : (g : Group) → prepares_writers g ≡ true → answer_runs g ≡ true
-consent_runs g e = grind arith
-
 consent_decides : (g : Group) → prepares_writers g ≡ true → decides (order_of g) ≡ true
 consent_decides g e = grind arith
 
@@ -69,14 +66,7 @@ spent_holds now g t l e = grind arith
 
 first_is : (log : List Entry) → first_time (filter (λ e. is_hold e.place.group) log) ≡ option_map (λ (e : Entry). e.time) (find (λ (e : Entry). is_hold_step e.place.group) log)
 first_is [] = refl
-first_is (x ∷ log) = by_test (is_hold x.place.group) (is_hold_step x.place.group) (same_hold_step x.place.group) (first_is log) where
-  by_test : (b c : Bool) → b ≡ c → first_time (filter (λ e. is_hold e.place.group) log) ≡ option_map (λ (e : Entry). e.time) (find (λ (e : Entry). is_hold_step e.place.group) log)
-      → first_time (if b then x ∷ filter (λ e. is_hold e.place.group) log else filter (λ e. is_hold e.place.group) log)
-      ≡ option_map (λ (e : Entry). e.time) (if c then Some x else find (λ (e : Entry). is_hold_step e.place.group) log)
-  by_test true true e ih = refl
-  by_test true false e ih = absurd cc
-  by_test false true e ih = absurd cc
-  by_test false false e ih = ih
+first_is (x ∷ log) = grind (arith, same_hold_step, first_is log)
 
 pub held_finds : (now : ℕ) (g : Group) (a : Agenda) → holds_volumes g ≡ true → held_since_first now a ≡ true → Finds now (hold_running g (first_hold a.log)) HoldLimit
 held_finds now g a e f = grind (arith, first_is, finds_one, same_hold, passed_spent)
@@ -86,21 +76,8 @@ held_finds now g a e f = grind (arith, first_is, finds_one, same_hold, passed_sp
 least_spent : (now since least : ℕ) (rows : List WriterRow) (ms : List Member)
     → (has_passed least since now || list_any (λ (m : Member). has_passed (limit_of (slice_get rows m.writer)) since now) ms) ≡ true
     → is_spent now since (fold (λ l (m : Member). min l (limit_of (slice_get rows m.writer))) least ms) ≡ true
-least_spent now since least rows [] e = passed_spent now since least (no_more (has_passed least since now) e) where
-  no_more : (a : Bool) → (a || false) ≡ true → a ≡ true
-  no_more true e = refl
-  no_more false e = absurd cc
-least_spent now since least rows (m ∷ ms) e =
-    least_spent now since (min least (limit_of (slice_get rows m.writer))) rows ms
-    (of_min (limit_of (slice_get rows m.writer)) (list_any (λ (x : Member). has_passed (limit_of (slice_get rows x.writer)) since now) ms) e) where
-      of_min : (n : ℕ) (rest : Bool) → (has_passed least since now || (has_passed n since now || rest)) ≡ true → (has_passed (min least n) since now || rest) ≡ true
-      of_min n true e = all_true (has_passed (min least n) since now) where
-        all_true : (a : Bool) → (a || true) ≡ true
-        all_true true = refl
-        all_true false = refl
-      of_min n false e = least_of least n since now e where
-        least_of : (a b t x : ℕ) → (nat_lt (t + a) x || (nat_lt (t + b) x || false)) ≡ true → (nat_lt (t + min a b) x || false) ≡ true
-        least_of a b t x e = grind arith
+least_spent now since least rows [] e = grind (arith, passed_spent)
+least_spent now since least rows (m ∷ ms) e = grind (arith, least_spent now since (min least (limit_of (slice_get rows m.writer))) rows ms (grind arith))
 
 pub frozen_finds : (now : ℕ) (g : Group) (c : Course) (a : Agenda) → frozen_too_long now g c a ≡ true
     → Finds now (runs_if (freeze_runs g) FreezeLimit (freeze_opened_at a) (freeze_limit c)) FreezeLimit
@@ -112,7 +89,7 @@ frozen_finds now g c a e =
 -- ## unanswered
 
 answer_finds : (now : ℕ) (a : Agenda) (o : Open) → unanswered_too_long now o.place a ≡ true → Finds now (runs_if (answer_runs o.place.group) AnswerLimit (opened_at a o) answer_limit) AnswerLimit
-answer_finds now a o e = grind (arith, and_parts, finds_one, consent_runs, passed_spent, answer_since)
+answer_finds now a o e = grind (arith, and_parts, finds_one, passed_spent, answer_since)
 
 -- ## the spent limit fails the set
 
@@ -165,8 +142,7 @@ due_left now c a [] e = absurd cc
 due_left now c a (o ∷ os) e = due_open now c a o os e
 
 pub due_in : (now : ℕ) (c : Course) (a : Option Agenda) → is_due_in now c a ≡ true → Spends now (running_limits (freeze_limit c) a) (order_now (left a))
-due_in now c None e = absurd cc
-due_in now c (Some a) e = due_left now c a (groups_left a) e
+due_in now c a e = grind (arith, due_left)
 
 treats : (o : Option Running) (l : Running) (now : ℕ) (c : Course) → o ≡ Some l → Decides l.limit (order_now (left c.agenda)) → has_failed (treated o now c).outcome ≡ true
 treats o l now c e d = grind (arith, treated_fails, same_running)

@@ -8,7 +8,7 @@ use Rattle.promises.proofs.Words.{list_any, range_with_len, and_left, WriterRow,
 use Rattle.promises.proofs.Words.{takers, Mode, Components, All, Plan, WriterPlan, Pair, State, is_writer, Order, VssResult, Mark, Write, Said, row_after}
 use Rattle.promises.proofs.Words.{row_aborted, Group, Kind, Member, Agenda, IsKeptFrom, from_settled, from_begun, from_answered, from_timed, Session, SetRow}
 use Rattle.promises.proofs.Words.{Kept, in_progress, length-rows_where, Course, posted, begun, told, answered as course_answered, worked}
-use Rattle.promises.proofs.Words.{stepped as course_stepped, timed as course_timed, Ending, runs, concluded, followed, failed_in, cleared, with_room_if, put}
+use Rattle.promises.proofs.Words.{stepped as course_stepped, timed as course_timed, runs, followed, failed_in, cleared, with_room_if, put}
 use Rattle.promises.proofs.Words.{write, reverted_as, step_made, stepped_as, ticked, later, set_loses_image}
 
 -- ## Truth values, and tests of numbers: what several proofs ask of them.
@@ -69,8 +69,7 @@ head_member test k r rows w = grind arith
 
 no_member_before : (test : ℕ → Bool) (k : ℕ) (rows : List WriterRow) (w : ℕ) → w < k → is_member (members_from test k rows) w ≡ false
 no_member_before test k [] w l = refl
-no_member_before test k (r ∷ rows) w l = head_member test k r rows w ∙ skips (test k) (k == w) (is_member (members_from test (k + 1) rows) w) (beyond k w l)
-    ∙ no_member_before test (k + 1) rows w (still_less k w l)
+no_member_before test k (r ∷ rows) w l = grind (arith, head_member, skips, beyond, still_less, no_member_before test (k + 1) rows w (still_less k w l))
 
 pub members_from_are : (test : ℕ → Bool) (k : ℕ) (rows : List WriterRow) (w : ℕ) → k ≤ w → is_member (members_from test k rows) w ≡ (nat_lt w (k + length rows) && test w)
 members_from_are test k [] w l = sym (and_left (nat_lt w (k + 0)) (test w) (none_from k w l))
@@ -86,8 +85,7 @@ head_passes test a w xs = grind arith
 
 pub none_passes : (test : ℕ → Bool) (a n w : ℕ) → w < a → is_among w (filter test (range_with_len a n)) ≡ false
 none_passes test a zero w l = refl
-none_passes test a (suc n) w l = head_passes test a w (range_with_len (a + 1) n)
-    ∙ skips (test a) (a == w) (is_among w (filter test (range_with_len (a + 1) n))) (beyond a w l) ∙ none_passes test (a + 1) n w (still_less a w l)
+none_passes test a (suc n) w l = grind (arith, head_passes, skips, beyond, still_less, none_passes test (a + 1) n w (still_less a w l))
 
 pub range_passes : (test : ℕ → Bool) (a n w : ℕ) → a ≤ w → is_among w (filter test (range_with_len a n)) ≡ (nat_lt w (a + n) && test w)
 range_passes test a zero w l = sym (and_left (nat_lt w (a + 0)) (test w) (none_from a w l))
@@ -195,16 +193,13 @@ pub record SameChoice (st x : State) : Type 0 where
 pub same_choice : (st : State) → SameChoice st st
 same_choice st = record { explicit = refl; course = same_course st.course; mode = refl }
 
-on_concluded : (e : Ending) (st x : State) → SameChoice st x → SameChoice st (concluded e x)
-on_concluded e st x h = grind arith
-
 -- the course goes on in a state that is the same but for sets, volumes and the clock
 pub on_followed : (ran : Bool) (c : Course) (st x : State) → x.explicit ≡ st.explicit → x.session ≡ st.session → SameCourse st.course c → SameChoice st (followed ran c x)
 unfolding followed
 on_followed ran c st x e f h = grind arith
 
 pub on_failed_in : (o : Option SetRow) (why : VssResult) (st x : State) → SameChoice st x → SameChoice st (failed_in o why x)
-on_failed_in o why st x h = grind (arith, on_concluded, on_failed)
+on_failed_in o why st x h = grind (arith, on_failed)
 
 pub on_answered : (w : ℕ) (said : Said) (st : State) → SameChoice st (answered w said st)
 unfolding answered
@@ -214,15 +209,12 @@ pub on_ticked : (n : ℕ) (st : State) → SameChoice st (ticked n st)
 unfolding ticked
 on_ticked n st = on_followed (runs st) (course_timed (st.clock + n) st.course) st (later n st) refl refl (on_course_timed (st.clock + n) st.course)
 
-explicit_made : (g : Option Group) (v : Option ℕ) (st : State) → (step_made g v st).explicit ≡ st.explicit
-explicit_made g v st = grind arith
-
 pub session_made : (g : Option Group) (v : Option ℕ) (st : State) → (step_made g v st).session ≡ st.session
 session_made g v st = grind arith
 
 on_step_as : (f : Bool) (g : Option Group) (v : Option ℕ) (st : State) → SameChoice st (stepped_as f g v st)
 on_step_as true g v st = on_followed (runs st) (course_stepped false st.clock st.course) st st refl refl (on_course_stepped false st.clock st.course)
-on_step_as false g v st = on_followed (runs st) (course_stepped true st.clock st.course) st (step_made g v st) (explicit_made g v st) (session_made g v st) (on_course_stepped true st.clock st.course)
+on_step_as false g v st = on_followed (runs st) (course_stepped true st.clock st.course) st (step_made g v st) (grind arith) (session_made g v st) (on_course_stepped true st.clock st.course)
 
 pub on_stepped : (mark : Mark) (st : State) → SameChoice st (stepped mark st)
 unfolding stepped

@@ -3,72 +3,49 @@ use Rattle.std.proofs.Common.{◌≡◌, ◌∙◌, ℕ, List, Option, Some, Non
 use Rattle.std.specs.Prelude.{is_some, unwrap_or, if◌then◌else◌}
 use Rattle.writer_meta.proofs.Laws.{and_left}
 use Rattle.vss_model.proofs.StateForm.{answered, stepped}
-use Rattle.promises.proofs.Words.{BadState, Agenda, SessionCall, Verdict, Refused, Session, check, check_other, owner_only, verdict_of, is_await as awaits, Op}
-use Rattle.promises.proofs.Words.{Target, target_of, Plan, acts_as, Line, Coded, State, is_frozen, runs, judged, Act, is_blocked, enabled, happens, after}
-use Rattle.promises.proofs.Words.{state, IsAgendaOf, owns, orderly, is_owners, CallsAreOwned, may_wait, WaitsAreFew, WaitsAreDue, StandsQuiet, FrozenDoNotWrite}
-use Rattle.promises.proofs.Words.{after_enabled, after_not_enabled, called, line, not_false, VssResult, AsyncCancelled, Said, Mark, Write, said_of, Group}
-use Rattle.promises.proofs.Words.{Course, Event, SetRow, Kept, in_progress, line_ticks, ticks_of, idle_now, ticks_if, ClockMoves, Covers, covered, Ending}
-use Rattle.promises.proofs.Words.{ending, concluded, followed, failed_in, failed, Replied, write, reverted_as, closed, step_made, stepped_as, ticked, later}
-use Rattle.promises.proofs.Words.{is_spent, ticks_until, Running, spent_of, running_until, ticks_to_spend, idle_spends, IdlesShortest, Clean, Fault, FaultAfter}
-use Rattle.promises.proofs.Words.{is_flush, is_flush_step, event_allows, may_stop_after, MarksAreDue, may_fail, may_stop, RefusalsChangeNothing}
-use Rattle.promises.proofs.Words.{none_if_refused, stays}
+use Rattle.promises.proofs.Words.{BadState, SessionCall, Refused, Session, check, check_other, is_await as awaits, Op, Target, target_of, Plan, Line, Coded}
+use Rattle.promises.proofs.Words.{State, runs, judged, Act, is_blocked, enabled, happens, after, state, owns, orderly, is_owners, CallsAreOwned, WaitsAreFew}
+use Rattle.promises.proofs.Words.{WaitsAreDue, StandsQuiet, FrozenDoNotWrite, after_enabled, after_not_enabled, called, line, not_false, VssResult}
+use Rattle.promises.proofs.Words.{AsyncCancelled, Said, Mark, Write, said_of, Group, Course, Event, SetRow, in_progress, line_ticks, ticks_of, idle_now}
+use Rattle.promises.proofs.Words.{ticks_if, ClockMoves, Covers, covered, followed, failed_in, failed, Replied, write, closed, step_made, stepped_as, ticked}
+use Rattle.promises.proofs.Words.{later, Running, spent_of, running_until, ticks_to_spend, idle_spends, IdlesShortest, Clean, FaultAfter, event_allows}
+use Rattle.promises.proofs.Words.{MarksAreDue, may_stop, RefusalsChangeNothing, none_if_refused, stays}
 
 -- ## Who may call, and what waits.
 
 -- ## a call of another lane
-
-other_refused : (q : Option Session) (running : Bool) (lane : ℕ) (c : SessionCall) → owns q lane ≡ false → check_other q running lane c ≡ Refused BadState
-other_refused q running lane c e = grind arith
 
 called_refused : (c : SessionCall) (s : Plan) (lane : ℕ) (op : Op) (st : State) → check st.session (runs st) lane c ≡ Refused BadState → called c s lane op st ≡ (Coded BadState, st)
 unfolding called
 called_refused c s lane op st e = ap (λ v. judged v s lane op st) e
 
 line_refused : (s : Plan) (lane : ℕ) (op : Op) (act : Act) (st : State) → is_owners op ≡ true → owns st.session lane ≡ false → line s lane op act.mark st ≡ (Coded BadState, st)
-line_refused s lane op act st e f = grind (arith, called_refused, other_refused)
+line_refused s lane op act st e f = grind (arith, called_refused)
 
 happens_refused : (s : Plan) (st : State) (act : Act) (lane : ℕ) (op : Op) → act.event ≡ Line lane op → is_owners op ≡ true → owns st.session lane ≡ false
     → happens s act.event act.mark st ≡ (Coded BadState, st)
 happens_refused s st act lane op e f g = ap (λ x. happens s x act.mark st) e ∙ line_refused s lane op act st f g
 
-after_refused : (b : Bool) (s : Plan) (st : State) (act : Act) → enabled s st act.event ≡ b → happens s act.event act.mark st ≡ (Coded BadState, st) → after s st act ≡ st
-after_refused b s st act e f = grind (arith, after_enabled, after_not_enabled)
-
 pub calls_are_owned : (s : Plan) (so_far : List Act) (act : Act) → CallsAreOwned s so_far act
-calls_are_owned s so_far act lane op e f g = grind (arith, happens_refused, after_refused)
+calls_are_owned s so_far act lane op e f g = grind (arith, happens_refused, after_enabled, after_not_enabled)
 
 -- ## what waits
 
-verdict_waits : (a b c d : Bool) → is_blocked (verdict_of a b c d) ≡ true → d ≡ true
-verdict_waits a b c d e = grind arith
-
-owner_waits : (b : Bool) (v : Verdict) → is_blocked (owner_only b v) ≡ true → is_blocked v ≡ true
-owner_waits b v e = grind arith
-
 other_waits : (q : Option Session) (running : Bool) (lane : ℕ) (c : SessionCall) → is_blocked (check_other q running lane c) ≡ true → awaits c ≡ true
-other_waits q running lane c e = grind (arith, and_left, verdict_waits, owner_waits)
-
-waits_for : (s : Plan) (st : State) (lane : ℕ) (op : Op) → enabled s st (Line lane op) ≡ false → may_wait op ≡ true
-waits_for s st lane op e = grind (arith, other_waits, not_false)
+other_waits q running lane c e = grind (arith, and_left)
 
 pub waits_are_few : (s : Plan) (so_far : List Act) → WaitsAreFew s so_far
-waits_are_few s so_far lane op e = waits_for s (state s so_far) lane op e
+waits_are_few s so_far lane op e = grind (arith, other_waits, not_false)
 
 -- ## without a session
 
-quiet_if : (a : Option Agenda) (q : Option Session) → q ≡ None → IsAgendaOf a q → is_some a ≡ false
-quiet_if a q e h = grind arith
-
 pub stands_quiet : (s : Plan) (so_far : List Act) → StandsQuiet s so_far
-stands_quiet s so_far e = quiet_if (state s so_far).course.agenda (state s so_far).session e (orderly s so_far).agenda
+stands_quiet s so_far e = grind (arith, (orderly s so_far).agenda)
 
 -- ## a frozen writer
 
-frozen_waits : (s : Plan) (st : State) (lane w : ℕ) (op : Op) (t : Target) → acts_as s lane ≡ Some w → is_frozen st w ≡ true → target_of op ≡ Some t → enabled s st (Line lane op) ≡ false
-frozen_waits s st lane w op t e f g = grind arith
-
 pub frozen_do_not_write : (s : Plan) (so_far : List Act) → FrozenDoNotWrite s so_far
-frozen_do_not_write s so_far lane w op t e f g = frozen_waits s (state s so_far) lane w op t e f g
+frozen_do_not_write s so_far lane w op t e f g = grind arith
 
 -- ## who waits, and who need not
 
@@ -77,12 +54,9 @@ waits_are_due s so_far = grind arith
 
 -- ## What moves the clock.
 
-clock-concluded : (e : Ending) (st : State) → (concluded e st).clock ≡ st.clock
-clock-concluded e st = grind arith
-
 pub clock-followed : (ran : Bool) (c : Course) (st : State) → (followed ran c st).clock ≡ st.clock
 unfolding followed
-clock-followed ran c st = clock-concluded (ending st.course.outcome c.outcome ran c.agenda) (record st { course = c })
+clock-followed ran c st = grind arith
 
 clock-failed_in : (o : Option SetRow) (why : VssResult) (st : State) → (failed_in o why st).clock ≡ st.clock
 clock-failed_in o why st = grind arith
@@ -90,9 +64,6 @@ clock-failed_in o why st = grind arith
 clock-write : (s : Plan) (v : ℕ) (w : Write) (mark : Mark) (st : State) → (write s v w mark st).1.clock ≡ st.clock
 unfolding write
 clock-write s v w mark st = grind arith
-
-clock-reverted : (s : Plan) (v : ℕ) (k : Kept) (mark : Mark) (st : State) → (reverted_as s v k mark st).1.clock ≡ st.clock
-clock-reverted s v k mark st = grind arith
 
 pub clock-made : (g : Option Group) (v : Option ℕ) (st : State) → (step_made g v st).clock ≡ st.clock
 clock-made g v st = grind arith
@@ -134,7 +105,7 @@ module _ (s : Plan) (st : State) where
   moves = record {
     stays = λ lane op mark told e f. stands_still st st.clock (line_ticks op) refl e;
     writes = λ lane op v w mark e f. stands_still st _ (line_ticks op) (clock-write s v w mark st) (write_ticks op _ e);
-    reverts = λ lane n v k mark e f. stands_still st _ None (clock-reverted s v k mark st) refl;
+    reverts = λ lane n v k mark e f. stands_still st _ None (grind arith) refl;
     deletes_set = λ lane n c mark e. no_ticks st.clock;
     deletes_image = λ lane n v k mark e. no_ticks st.clock;
     ticks = λ lane n mark. clock-ticked n st;
@@ -176,26 +147,15 @@ AllMore now n (l ∷ ls) = (n < running_until now l) × AllMore now n ls
 
 least_first : (now n t : ℕ) (ls : List Running) → n < Least now t ls → n < t
 least_first now n t [] h = h
-least_first now n t (l ∷ ls) h = below (running_until now l) t n (least_first now n (min t (running_until now l)) ls h) where
-  below : (a t n : ℕ) → n < min t a → n < t
-  below a t n h = omega arith
+least_first now n t (l ∷ ls) h = grind (arith, least_first now n (min t (running_until now l)) ls h)
 
 least_all : (now n t : ℕ) (ls : List Running) → n < Least now t ls → AllMore now n ls
 least_all now n t [] h = tt
-least_all now n t (l ∷ ls) h = (below (running_until now l) t n (least_first now n (min t (running_until now l)) ls h), least_all now n (min t (running_until now l)) ls h)
-  where
-    below : (a t n : ℕ) → n < min t a → n < a
-    below a t n h = omega arith
-
-not_spent : (now n since limit : ℕ) → n < ticks_until now since limit → is_spent (now + n) since limit ≡ false
-not_spent now n since limit h = grind arith
+least_all now n t (l ∷ ls) h = ((grind (arith, least_first now n (min t (running_until now l)) ls h)), least_all now n (min t (running_until now l)) ls h)
 
 none_spent : (now n : ℕ) (ls : List Running) → AllMore now n ls → is_some (spent_of (now + n) ls) ≡ false
 none_spent now n [] h = refl
-none_spent now n (l ∷ ls) h = by_test (is_spent (now + n) l.since l.ticks) (not_spent now n l.since l.ticks h.0) (none_spent now n ls h.1) where
-  by_test : (b : Bool) → b ≡ false → is_some (spent_of (now + n) ls) ≡ false → is_some (if b then Some l else spent_of (now + n) ls) ≡ false
-  by_test true e ih = absurd cc
-  by_test false e ih = ih
+none_spent now n (l ∷ ls) h = grind (arith, none_spent now n ls h.1)
 
 shorter_spends_none : (now n : ℕ) (ls : List Running) → n < ticks_to_spend now ls → is_some (spent_of (now + n) ls) ≡ false
 shorter_spends_none now n [] h = refl
@@ -206,25 +166,15 @@ idles_shortest s so_far = grind (arith, idle_spends, shorter_spends_none)
 
 -- ## A device fails only where it is called.
 
-same_flush : (g : Option Group) → is_flush g ≡ is_flush_step g
-same_flush None = refl
-same_flush _ = refl
-
 module _ (s : Plan) (st : State) where
   clean : (event : Event) → event_allows s st event Clean ≡ true
   clean event = grind arith
 
-  failed_act : (event : Event) → event_allows s st event Fault ≡ may_fail st event
-  failed_act event = grind (arith, same_flush)
-
-  kept : (n v k : ℕ) (o : Option Kept) → may_stop_after s st v o k ≡ true → is_some o ≡ true
-  kept n v k o e = grind arith
-
   stopped : (event : Event) (k : ℕ) → event_allows s st event (FaultAfter k) ≡ true → may_stop st event ≡ true
-  stopped event k e = grind (arith, kept)
+  stopped event k e = grind arith
 
 pub marks_are_due : (s : Plan) (so_far : List Act) → MarksAreDue s so_far
-marks_are_due s so_far = record { clean = clean s (state s so_far); failed = failed_act s (state s so_far); stopped = stopped s (state s so_far) }
+marks_are_due s so_far = record { clean = clean s (state s so_far); failed = grind arith; stopped = stopped s (state s so_far) }
 
 -- ## A refusal changes nothing, and neither does a line that only looks: such an act has no changes.
 

@@ -1,6 +1,6 @@
 -- How many blocks writes name, and which parts of them name no more.
-use Rattle.std.proofs.Common.{◌≡◌, ◌∙◌, ℕ, ◌+◌, ◌==◌, ◌≤◌, ◌<◌, zero, suc, List, [], ◌∷◌, ◌++◌, ◌⊎◌, refl, Bool, true, false, ap, sym, subst, inl, inr, map, filter, length, take, drop, arith}
-use Rattle.std.specs.Prelude.{◌||◌, if◌then◌else◌, slice_range}
+use Rattle.std.proofs.Common.{◌≡◌, ◌∙◌, ℕ, ◌+◌, ◌==◌, ◌≤◌, ◌<◌, zero, suc, List, [], ◌∷◌, ◌++◌, ◌⊎◌, refl, Bool, true, false, ap, sym, inl, inr, map, filter, length, take, drop, arith}
+use Rattle.std.specs.Prelude.{◌||◌, slice_range}
 use Rattle.promises.proofs.Words.{range_with_len, drop-append-le, take-append-le, length-drop, list_any-append, Write, names, blocks_named, to_restore}
 use Rattle.promises.proofs.Words.{restoring, or_cases, or_right, number_is}
 use Rattle.promises.proofs.Members.{chain}
@@ -13,46 +13,11 @@ NameNoMore xs ys = (b : ℕ) → names xs b ≡ true → names ys b ≡ true
 
 fewer_pass : (f g : ℕ → Bool) → ((b : ℕ) → f b ≡ true → g b ≡ true) → (bs : List ℕ) → length (filter f bs) ≤ length (filter g bs)
 fewer_pass f g h [] = omega arith
-fewer_pass f g h (b ∷ bs) = by_tests (f b) (g b) (h b) (fewer_pass f g h bs) where
-  both : (m n : ℕ) → m ≤ n → suc m ≤ suc n
-  both m n l = omega arith
-
-  more : (m n : ℕ) → m ≤ n → m ≤ suc n
-  more m n l = omega arith
-
-  not_so : (true ≡ true → false ≡ true) → ⊥
-  not_so e = let f = e refl in cc
-
-  by_tests : (p q : Bool) → (p ≡ true → q ≡ true) → length (filter f bs) ≤ length (filter g bs)
-      → length (if p then b ∷ filter f bs else filter f bs) ≤ length (if q then b ∷ filter g bs else filter g bs)
-  by_tests true true e l = both (length (filter f bs)) (length (filter g bs)) l
-  by_tests true false e l = absurd (not_so e)
-  by_tests false true e l = more (length (filter f bs)) (length (filter g bs)) l
-  by_tests false false e l = l
+fewer_pass f g h (b ∷ bs) = grind (arith, fewer_pass f g h bs)
 
 passed_by_either : (f g h : ℕ → Bool) → ((b : ℕ) → f b ≡ (g b || h b)) → (bs : List ℕ) → length (filter f bs) ≤ length (filter g bs) + length (filter h bs)
 passed_by_either f g h e [] = omega arith
-passed_by_either f g h e (b ∷ bs) = by_tests (f b) (g b) (h b) (e b) (passed_by_either f g h e bs) where
-  step : (p q r : Bool) → p ≡ (q || r) → (x y z : ℕ) → x ≤ y + z → (if p then suc x else x) ≤ (if q then suc y else y) + (if r then suc z else z)
-  step true true true i x y z l = omega arith
-  step true true false i x y z l = omega arith
-  step true false true i x y z l = omega arith
-  step true false false i x y z l = absurd cc
-  step false true r i x y z l = absurd cc
-  step false false true i x y z l = absurd cc
-  step false false false i x y z l = l
-
-  long : (t : Bool) (xs : List ℕ) → length (if t then b ∷ xs else xs) ≡ (if t then suc (length xs) else length xs)
-  long true xs = refl
-  long false xs = refl
-
-  along : (x y z a b c : ℕ) → x ≡ a → y ≡ b → z ≡ c → a ≤ b + c → x ≤ y + z
-  along x y z a b c i j k l = omega arith
-
-  by_tests : (p q r : Bool) → p ≡ (q || r) → length (filter f bs) ≤ length (filter g bs) + length (filter h bs)
-      → length (if p then b ∷ filter f bs else filter f bs) ≤ length (if q then b ∷ filter g bs else filter g bs) + length (if r then b ∷ filter h bs else filter h bs)
-  by_tests p q r i l =
-      along _ _ _ _ _ _ (long p (filter f bs)) (long q (filter g bs)) (long r (filter h bs)) (step p q r i (length (filter f bs)) (length (filter g bs)) (length (filter h bs)) l)
+passed_by_either f g h e (b ∷ bs) = grind (arith, passed_by_either f g h e bs)
 
 pub named_no_more : (n : ℕ) (xs ys : List Write) → NameNoMore xs ys → length (blocks_named n xs) ≤ length (blocks_named n ys)
 named_no_more n xs ys h = fewer_pass (names xs) (names ys) h (range_with_len 0 n)
@@ -75,31 +40,11 @@ pub named_by_one : (n : ℕ) (w : Write) → length (blocks_named n (w ∷ [])) 
 named_by_one n w = over 0 n where
   none_past : (a n : ℕ) → w.block < a → length (filter (is_block w.block) (range_with_len a n)) ≡ 0
   none_past a zero l = refl
-  none_past a (suc n) l = by_test (is_block w.block a) (not_it w.block a l) (none_past (a + 1) n (more w.block a l)) where
-    not_it : (c a : ℕ) → c < a → ((c == a) || false) ≡ false
-    not_it c a l = grind arith
-
-    more : (c a : ℕ) → c < a → c < a + 1
-    more c a l = omega arith
-
-    by_test : (t : Bool) → t ≡ false → length (filter (is_block w.block) (range_with_len (a + 1) n)) ≡ 0
-        → length (if t then a ∷ filter (is_block w.block) (range_with_len (a + 1) n) else filter (is_block w.block) (range_with_len (a + 1) n)) ≡ 0
-    by_test true e h = absurd cc
-    by_test false e h = h
+  none_past a (suc n) l = grind (arith, none_past (a + 1) n (grind arith))
 
   over : (a n : ℕ) → length (filter (is_block w.block) (range_with_len a n)) ≤ 1
   over a zero = omega arith
-  over a (suc n) = by_test (is_block w.block a) refl (over (a + 1) n) where
-    next : (c a : ℕ) → ((c == a) || false) ≡ true → c < a + 1
-    next c a e = grind arith
-
-    one : (k : ℕ) → k ≡ 0 → suc k ≤ 1
-    one k e = omega arith
-
-    by_test : (t : Bool) → is_block w.block a ≡ t → length (filter (is_block w.block) (range_with_len (a + 1) n)) ≤ 1
-        → length (if t then a ∷ filter (is_block w.block) (range_with_len (a + 1) n) else filter (is_block w.block) (range_with_len (a + 1) n)) ≤ 1
-    by_test true e h = one (length (filter (is_block w.block) (range_with_len (a + 1) n))) (none_past (a + 1) n (next w.block a e))
-    by_test false e h = h
+  over a (suc n) = grind (arith, none_past, over (a + 1) n)
 
 -- ## parts of writes
 
@@ -155,10 +100,7 @@ AllNamed ws (b ∷ bs) = (names ws b ≡ true) × AllNamed ws bs
 
 named_filter : (ws : List Write) (bs : List ℕ) → AllNamed ws (filter (names ws) bs)
 named_filter ws [] = tt
-named_filter ws (b ∷ bs) = by_test (names ws b) refl (named_filter ws bs) where
-  by_test : (t : Bool) → names ws b ≡ t → AllNamed ws (filter (names ws) bs) → AllNamed ws (if t then b ∷ filter (names ws) bs else filter (names ws) bs)
-  by_test true e h = (e, h)
-  by_test false e h = h
+named_filter ws (b ∷ bs) = grind (arith, named_filter ws bs)
 
 named_first : (ws : List Write) (k : ℕ) (bs : List ℕ) → AllNamed ws bs → AllNamed ws (take k bs)
 named_first ws zero bs h = tt
@@ -167,10 +109,7 @@ named_first ws (suc k) (b ∷ bs) h = (h.0, named_first ws k bs h.1)
 
 restored_named : (ws since : List Write) (p : ℕ) (bs : List ℕ) → AllNamed since bs → NameNoMore (map (restoring ws p) bs) since
 restored_named ws since p [] h b e = no_names b _ e
-restored_named ws since p (c ∷ bs) h b e = by_test (c == b) refl e (restored_named ws since p bs h.1 b) where
-  by_test : (t : Bool) → (c == b) ≡ t → (t || names (map (restoring ws p) bs) b) ≡ true → (names (map (restoring ws p) bs) b ≡ true → names since b ≡ true) → names since b ≡ true
-  by_test true f g ih = subst (λ x. names since x ≡ true) (number_is c b f) h.0
-  by_test false f g ih = ih g
+restored_named ws since p (c ∷ bs) h b e = grind (arith, number_is, restored_named ws since p bs h.1 b)
 
 abbrev restored : ℕ → ℕ → ℕ → List Write → List Write
 restored n p k ws = map (restoring ws p) (take k (to_restore n ws p))

@@ -1,6 +1,6 @@
 -- Limits that are not spent, and one more that is said: it leaves no limit outrun.
 use Rattle.std.proofs.Common.{◌≡◌, ◌∙◌, ℕ, ◌≤◌, List, [], ◌∷◌, ◌++◌, Option, Some, None, refl, Bool, true, false, arith, ◌==◌, ap, sym, subst, map, filter}
-use Rattle.std.specs.Prelude.{not, if◌then◌else◌, ◌&&◌, ◌||◌}
+use Rattle.std.specs.Prelude.{not, if◌then◌else◌, ◌&&◌}
 use Rattle.set_agenda.specs.declared.limit.Limit.TheVariants.{Hold as HoldLimit, Freeze as FreezeLimit}
 use Rattle.promises.proofs.Orders.{same_group}
 use Rattle.promises.proofs.OpenGroup.{every, in_kind, IsOpen, IsSome, speaks_some, speaks_open, last_new, none_new, filter_along, has_hold, hold_there}
@@ -26,17 +26,11 @@ none_both now xs ys e f = later_found now xs ys e ∙ f
 
 pub none_first : (now : ℕ) (xs ys : List RunningLimit) → spent_of now (xs ++ ys) ≡ None → spent_of now xs ≡ None
 none_first now [] ys e = refl
-none_first now (x ∷ xs) ys e = by_test (is_spent now x.since x.ticks) e (none_first now xs ys) where
-  by_test : (b : Bool) → (if b then Some x else spent_of now (xs ++ ys)) ≡ None → (spent_of now (xs ++ ys) ≡ None → spent_of now xs ≡ None) → (if b then Some x else spent_of now xs) ≡ None
-  by_test true e ih = absurd cc
-  by_test false e ih = ih e
+none_first now (x ∷ xs) ys e = grind (arith, none_first now xs ys)
 
 pub none_second : (now : ℕ) (xs ys : List RunningLimit) → spent_of now (xs ++ ys) ≡ None → spent_of now ys ≡ None
 none_second now [] ys e = e
-none_second now (x ∷ xs) ys e = by_test (is_spent now x.since x.ticks) e (none_second now xs ys) where
-  by_test : (b : Bool) → (if b then Some x else spent_of now (xs ++ ys)) ≡ None → (spent_of now (xs ++ ys) ≡ None → spent_of now ys ≡ None) → spent_of now ys ≡ None
-  by_test true e ih = absurd cc
-  by_test false e ih = ih e
+none_second now (x ∷ xs) ys e = grind (arith, none_second now xs ys)
 
 pub unspent_if : (b : Bool) (x : Limit) (since ticks now : ℕ) → (b ≡ true → is_spent now since ticks ≡ false) → spent_of now (runs_if b x since ticks) ≡ None
 unspent_if b x since ticks now h = grind arith
@@ -65,14 +59,8 @@ mild_order o e = grind arith
 pub hold_six : (g : Group) (l : Option Level) → is_hold g ≡ true → 6 ≤ group_stage g l
 hold_six g l e = grind arith
 
-pub hold_nine : (g : Group) (l : Option Level) → hold_runs g ≡ true → group_stage g l ≤ 9
-hold_nine g l e = grind arith
-
 pub hold_between : (g : Group) (l : Option Level) → 6 ≤ group_stage g l → group_stage g l ≤ 9 → hold_runs g ≡ true
 hold_between g l h i = grind arith
-
-pub freeze_ten : (g : Group) (l : Option Level) → freeze_runs g ≡ true → group_stage g l ≤ 10
-freeze_ten g l e = grind arith
 
 pub freeze_between : (g : Group) (l : Option Level) → is_prepare_snapshot g ≡ false → group_stage g l ≤ 10 → freeze_runs g ≡ true
 freeze_between g l h i = grind arith
@@ -83,9 +71,6 @@ mild_high g l e = grind arith
 abbrev pub is_backup_order : Group → Bool
 is_backup_order (Orders PrepareBackup) = true
 is_backup_order _ = false
-
-pub high_mild : (g : Group) (l : Option Level) → not (is_backup_order g) ≡ true → 11 ≤ group_stage g l → is_mild g ≡ true
-high_mild g l h i = grind arith
 
 -- ## One more is said: it leaves no limit outrun.
 
@@ -133,27 +118,17 @@ module _ (now : ℕ) (said : Said) (ws : List ℕ) (a : Agenda) (who : Speaks a 
   stage_is = ap open_stage now_open.is
 
   pub ordered_more : Ordered more
-  ordered_more k e = by_old (has_hold a.log) refl (sym (list_any-append (λ (x : Entry). is_hold x.place.group) a.log (map (at_place p said now) ws)) ∙ e) where
-    by_old : (b : Bool) → has_hold a.log ≡ b → (has_hold a.log || has_hold (map (at_place p said now) ws)) ≡ true → 6 ≤ open_stage (groups_left more)
-    by_old true i j = chain 6 (open_stage (groups_left a)) (open_stage (groups_left more)) (order k i) (up k)
-    by_old false i j =
-        let held = new_hold now p said ws (second (has_hold a.log) (has_hold (map (at_place p said now) ws)) i j) in
-        let six = hold_six shown.place.group shown.place.level (ap (λ (q : Place). is_hold q.group) (sym p_is) ∙ held) in
-        chain 6 (open_stage (groups_left a)) (open_stage (groups_left more)) (subst (λ n. 6 ≤ n) (sym stage_is) six) (up k) where
-          second : (b c : Bool) → b ≡ false → (b || c) ≡ true → c ≡ true
-          second true c e f = absurd cc
-          second false c e f = f
+  ordered_more k e = grind (arith, list_any-append, chain, up, new_hold, hold_six, p_is, stage_is)
 
   -- a mild group is followed by mild ones alone
   pub mild_stays : (k : Kind) → a.kind ≡ k → is_mild p.group ≡ true → (x : Open) (xs : List Open) → groups_left more ≡ x ∷ xs → is_mild x.place.group ≡ true
   mild_stays Gather e m x xs g = in_kind (λ q. is_mild q.group) Gather more x xs e refl g
   mild_stays Complete e m x xs g = in_kind (λ q. is_mild q.group) Complete more x xs e refl g
-  mild_stays Prepare e m x xs g =
-      absurd (not_itself (is_mild shown.place.group) (ap (λ (q : Place). is_mild q.group) (sym p_is) ∙ m) (in_kind (λ q. not (is_mild q.group)) Prepare a shown now_open.rest e refl now_open.is))
+  mild_stays Prepare e m x xs g = grind (arith, not_itself, p_is, in_kind)
   mild_stays Snapshot e m x xs g =
       let high = mild_high shown.place.group shown.place.level (ap (λ (q : Place). is_mild q.group) (sym p_is) ∙ m) in
       let higher = chain 11 (open_stage (groups_left a)) (open_stage (groups_left more)) (subst (λ n. 11 ≤ n) (sym stage_is) high) (up e) in
-      high_mild x.place.group x.place.level (in_kind (λ q. not (is_backup_order q.group)) Snapshot more x xs e refl g) (subst (λ ys. 11 ≤ open_stage ys) g higher)
+      grind (arith, in_kind (λ q. not (is_backup_order q.group)) Snapshot more x xs e refl g, subst (λ ys. 11 ≤ open_stage ys) g higher)
 
   module _ (f : ℕ) (old : Unspent now f a) (x : Open) (xs : List Open) (g : groups_left more ≡ x ∷ xs) where
     abbrev pub H : List RunningLimit
@@ -197,7 +172,7 @@ module _ (now : ℕ) (said : Said) (ws : List ℕ) (a : Agenda) (who : Speaks a 
           let same = some_same t since (sym (hold_stays a.log (map (at_place p said now) ws) t i) ∙ e) in
           let k = holds_kind a.kind refl j in
           let six = subst (λ n. 6 ≤ n) stage_is (order k (hold_there a.log t i)) in
-          let held = hold_between shown.place.group shown.place.level six (under 9 k (hold_nine x.place.group x.place.level j)) in
+          let held = hold_between shown.place.group shown.place.level six (under 9 k (grind arith)) in
           let first = subst (λ b. spent_of now (hold_running shown.place.group b) ≡ None) i (none_first now H F (none_first now (H ++ F) A before)) in
           subst (λ n. is_spent now n hold_limit ≡ false) (sym same) (is_unspent (hold_runs shown.place.group) HoldLimit t hold_limit now first held)
 
@@ -210,7 +185,7 @@ module _ (now : ℕ) (said : Said) (ws : List ℕ) (a : Agenda) (who : Speaks a 
           ∙ last_new a.begun now (λ q. is_prepare_snapshot q.group) p said a.log one.first one.rest e)
       by_prepare false e i =
           let k = freezes_kind a.kind refl i in
-          let frozen = freeze_between shown.place.group shown.place.level (ap (λ (q : Place). is_prepare_snapshot q.group) (sym p_is) ∙ e) (under 10 k (freeze_ten x.place.group x.place.level i)) in
+          let frozen = freeze_between shown.place.group shown.place.level (ap (λ (q : Place). is_prepare_snapshot q.group) (sym p_is) ∙ e) (under 10 k (grind arith)) in
           let same : freeze_opened_at more ≡ freeze_opened_at a = ap (last_time a.begun) (none_new now (λ q. is_prepare_snapshot q.group) p said ws a.log e) in
           subst (λ n. is_spent now n f ≡ false) (sym same)
           (is_unspent (freeze_runs shown.place.group) FreezeLimit (freeze_opened_at a) f now

@@ -2,22 +2,21 @@
 -- nobody is.
 use Rattle.std.proofs.Common.{◌≡◌, ◌∙◌, ℕ, ◌+◌, ◌==◌, List, [], ◌∷◌, ◌++◌, Option, Some, None, refl, Bool, true, false, ap, sym, subst, inl, inr, map, filter, length, arith}
 use Rattle.std.specs.Prelude.{◌&&◌, ◌||◌, not, is_some, option_map, if◌then◌else◌, nat_lt}
-use Rattle.promises.proofs.Words.{next_volume, list_any, list_any-append, Context, Order, SetOutcome, VssResult, AsyncCancelled, AsyncPending, Said, Lost, is_ok}
-use Rattle.promises.proofs.Words.{row_gathered, WriterRow, Mark, Write, takers, said_of, Group, Orders, Kind, Gather, Prepare, Snapshot, Complete, Member}
-use Rattle.promises.proofs.Words.{Place, Agenda, Entry, Open, plain, order_of, has_said, same_place, writers_at, groups_left, left, open_group, open_place}
-use Rattle.promises.proofs.Words.{is_among, is_working, is_done, at_place, all_say, order_now, waits_now, spent_of, Stage, Session, opened, append_assoc}
-use Rattle.promises.proofs.Words.{started as session_started, has_writers, stage_after, agenda_ended, set_failed, is_stage, Op, begins_agenda, Target}
-use Rattle.promises.proofs.Words.{target_of, Plan, runs, followed, failed_in, failed, SetRow, State, Kept, in_progress, left_now, Event, Reply, Fine, Coded}
-use Rattle.promises.proofs.Words.{Deleted, has_failed, IsAgendaOf, line_ticks, lost_order_if, Act, enabled, order_of_writer, idle_now, answer_reply, after}
-use Rattle.promises.proofs.Words.{state, LetsGo, is_pending, Settles, among_filter, state-append, append_nothing, orderly, Deed, Spoke, deeds_lost, Asking}
-use Rattle.promises.proofs.Words.{ToIdentify, ForConsent, AtCompletion, order_for, asks, step_for, is_asked_of, is_reply, owes_after, owes_if, owes_from, owes}
-use Rattle.promises.proofs.Words.{NobodyOwes, Step, ByGather, ByPrepare, ByComplete, progress, is_step, is_writer, choosing, Covers, after_not_enabled}
-use Rattle.promises.proofs.Words.{told_covered, some_same, none_runs, and_parts, false_from_ne_true, or_left, or_right, Course, is_member, fails_set}
-use Rattle.promises.proofs.Words.{begun, answered as course_answered, stepped as course_stepped, timed as course_timed, settled, settled_if, posted, released}
-use Rattle.promises.proofs.Words.{limits_now, lost_at, members_from, has_row_failed, prepared as course_prepared, Opened, Gathered, Started, Prepared, Done}
-use Rattle.promises.proofs.Words.{Finished, Line, Provider, Replied, with_room_if, put, write, reverted_as, disable, start_set, closed, pending}
-use Rattle.promises.proofs.Words.{gather, complete, stepped_as, ticked, later, new_number, is_disabled, selected, is_flush, is_failed_step}
-use Rattle.promises.proofs.Words.{unspoken, number_is, unless, is_opened, is_started, is_done_stage, filter_passes}
+use Rattle.promises.proofs.Words.{list_any, list_any-append, Order, SetOutcome, VssResult, AsyncCancelled, AsyncPending, Said, Lost, is_ok, row_gathered}
+use Rattle.promises.proofs.Words.{WriterRow, Mark, Write, takers, said_of, Group, Orders, Kind, Gather, Prepare, Snapshot, Complete, Member, Place, Agenda}
+use Rattle.promises.proofs.Words.{plain, order_of, has_said, same_place, writers_at, groups_left, left, open_group, open_place, is_among, is_working, is_done}
+use Rattle.promises.proofs.Words.{at_place, all_say, order_now, waits_now, spent_of, Stage, Session, opened, append_assoc, started as session_started}
+use Rattle.promises.proofs.Words.{has_writers, stage_after, agenda_ended, set_failed, is_stage, Op, Plan, runs, followed, failed_in, failed, SetRow, State}
+use Rattle.promises.proofs.Words.{in_progress, left_now, Event, Reply, Fine, Coded, Deleted, has_failed, IsAgendaOf, line_ticks, lost_order_if, Act, enabled}
+use Rattle.promises.proofs.Words.{order_of_writer, idle_now, answer_reply, after, state, LetsGo, is_pending, Settles, among_filter, state-append}
+use Rattle.promises.proofs.Words.{append_nothing, orderly, Deed, Spoke, deeds_lost, Asking, ToIdentify, ForConsent, AtCompletion, order_for, asks, step_for}
+use Rattle.promises.proofs.Words.{is_asked_of, is_reply, owes_after, owes_if, owes_from, owes, NobodyOwes, Step, progress, is_step, is_writer, choosing, Covers}
+use Rattle.promises.proofs.Words.{after_not_enabled, told_covered, some_same, none_runs, and_parts, false_from_ne_true, or_left, or_right, Course, is_member}
+use Rattle.promises.proofs.Words.{fails_set, begun, answered as course_answered, stepped as course_stepped, timed as course_timed, settled, settled_if, posted}
+use Rattle.promises.proofs.Words.{released, limits_now, lost_at, members_from, has_row_failed, prepared as course_prepared, Opened, Gathered, Started, Prepared}
+use Rattle.promises.proofs.Words.{Done, Finished, Line, Provider, Replied, write, reverted_as, disable, start_set, closed, pending, gather, complete}
+use Rattle.promises.proofs.Words.{ticked, later, new_number, is_disabled, selected, is_flush, is_failed_step, unspoken, number_is, unless, is_opened}
+use Rattle.promises.proofs.Words.{is_started, is_done_stage, filter_passes}
 use Rattle.writer_calls.specs.declared.answer.Answer.{Answer}
 use Rattle.set_agenda.specs.Course.{failed as course_failed}
 use Rattle.requestor.specs.declared.session_call.SessionCall.TheVariants as call
@@ -62,19 +61,13 @@ new_said p q said now [] w e = absurd cc
 new_said p q said now (x ∷ ws) w e = by_head (same_place p q) (x == w) e (new_said p q said now ws w) where
   by_head : (b c : Bool) → ((b && c) || has_said (map (at_place p said now) ws) q w) ≡ true → (has_said (map (at_place p said now) ws) q w ≡ true → is_among w ws ≡ true)
       → (c || is_among w ws) ≡ true
-  by_head b true e ih = refl
-  by_head true false e ih = ih e
-  by_head false false e ih = ih e
+  by_head b c e ih = grind arith
 
 -- and what is said is told
 new_told : (g : Group) (p : Place) (said : Said) (now : ℕ) (ws : List ℕ) (w : ℕ) (test : Deed → Bool) → ((u : ℕ) → (u == w) ≡ true → test (deed_at p.group u said now) ≡ true)
     → is_among w ws ≡ true → list_any test (map deed_in (map (at_place p said now) ws)) ≡ true
 new_told g p said now [] w test f e = absurd cc
-new_told g p said now (x ∷ ws) w test f e = by_head (x == w) refl e (new_told g p said now ws w test f) where
-  by_head : (b : Bool) → (x == w) ≡ b → (b || is_among w ws) ≡ true → (is_among w ws ≡ true → list_any test (map deed_in (map (at_place p said now) ws)) ≡ true)
-      → (test (deed_at p.group x said now) || list_any test (map deed_in (map (at_place p said now) ws))) ≡ true
-  by_head true i e ih = or_left (test (deed_at p.group x said now)) _ (f x i)
-  by_head false i e ih = or_right (test (deed_at p.group x said now)) _ (ih e)
+new_told g p said now (x ∷ ws) w test f e = grind (arith, or_left, or_right, new_told g p said now ws w test f)
 
 both : {X : Type 0} (b : Bool) → b ≡ true → b ≡ false → X
 both b e f = absurd cc
@@ -87,27 +80,7 @@ own_reply i g said now u w e f same = grind arith
 still_waits : (i : Asking) (w : ℕ) (said : Said) (now : ℕ) (ws : List ℕ) (a : Agenda) → a.kind ≡ kind_for i
     → (fails_set (order_of (open_place (groups_left a)).group) && not (is_ok said)) ≡ false
     → list_any (is_reply i w) (map deed_in (said_at (groups_left a) said now ws)) ≡ false → is_among w (waiting i a) ≡ true → is_among w (waiting i (all_say said now ws a)) ≡ true
-still_waits i w said now ws a k mild untold waits =
-    kept_among (λ x. not (has_said (a.log ++ new) (p0 i) x)) w (writers_at a.members None) (ap not unsaid_now)
-    (among_filter (λ x. not (has_said a.log (p0 i) x)) w (writers_at a.members None) waits) where
-      p : Place
-      p = open_place (groups_left a)
-
-      new : List Entry
-      new = said_at (groups_left a) said now ws
-
-      open_now : p.group ≡ Orders (order_for i)
-      open_now = ap (λ (q : Place). q.group) (open_is i w a k waits)
-
-      not_now : is_among w ws ≡ false
-      not_now = false_from_ne_true (is_among w ws)
-          (λ f. both (list_any (is_reply i w) (map deed_in new)) (new_told p.group p said now ws w (is_reply i w) (λ u g. own_reply i p.group said now u w open_now mild g) f) untold)
-
-      unsaid_now : has_said (a.log ++ new) (p0 i) w ≡ false
-      unsaid_now =
-          list_any-append (λ (x : Entry). same_place x.place (p0 i) && (x.who == w)) a.log new
-          ∙ ap (λ b. b || has_said new (p0 i) w) (unless (has_said a.log (p0 i) w) (filter_passes (λ x. not (has_said a.log (p0 i) x)) w (writers_at a.members None) waits))
-          ∙ false_from_ne_true (has_said new (p0 i) w) (λ f. both (is_among w ws) (new_said p (p0 i) said now ws w f) not_now)
+still_waits i w said now ws a k mild untold waits = grind (arith, kept_among, among_filter, open_is, false_from_ne_true, both, new_told, own_reply, list_any-append, unless, filter_passes, new_said)
 
 module _ (i : Asking) (w : ℕ) where
   -- of a running agenda, by whether the writer owes an answer
@@ -146,12 +119,7 @@ module _ (i : Asking) (w : ℕ) where
 -- each of these members is waited for
 member_waits : (w : ℕ) (ms : List Member) → is_member ms w ≡ true → is_among w (filter (λ who. true) (map (λ (m : Member). m.writer) (filter (λ (m : Member). true) ms))) ≡ true
 member_waits w [] e = absurd cc
-member_waits w (m ∷ ms) e = by_head (m.writer == w) e (member_waits w ms) where
-  by_head : (b : Bool) → (b || is_member ms w) ≡ true
-      → (is_member ms w ≡ true → is_among w (filter (λ who. true) (map (λ (x : Member). x.writer) (filter (λ (x : Member). true) ms))) ≡ true)
-      → (b || is_among w (filter (λ who. true) (map (λ (x : Member). x.writer) (filter (λ (x : Member). true) ms)))) ≡ true
-  by_head true e ih = refl
-  by_head false e ih = ih e
+member_waits w (m ∷ ms) e = grind (arith, member_waits w ms)
 
 begun_other : (i : Asking) (w : ℕ) (c : Bool) (k : Kind) (ms : List Member) (vs : List ℕ) (now : ℕ) (x : Course) → (k ≡ kind_for i → ⊥)
     → Running (Waits i w c) (begun k ms vs now x).agenda
@@ -168,30 +136,16 @@ begun_own i w d ms now x own = by_done (is_done (groups_left a)) refl where
   by_done : (b : Bool) → is_done (groups_left a) ≡ b
       → Running (Waits i w d) (settled_if b (kind_for i) (record x { agenda = Some a })).agenda × ((settled_if b (kind_for i) (record x { agenda = Some a })).agenda ≡ None → d ≡ false)
   by_done true e = (tt, λ f. false_from_ne_true d (λ g. both (is_among w (waiting i a)) (member_waits w ms (own g)) (none_waits i w a refl e)))
-  by_done false e = (λ k g. member_waits w ms (own g), λ f. absurd (differ f)) where
-    differ : Some a ≡ None → ⊥
-    differ e = cc
+  by_done false e = (λ k g. member_waits w ms (own g), λ f. absurd (cc))
 
 -- ## whom it asks
 
 member_kept : (rows : List WriterRow) (ms : List Member) (w : ℕ) → not (has_row_failed rows w) ≡ true → is_member ms w ≡ true
     → is_member (filter (λ (m : Member). not (has_row_failed rows m.writer)) ms) w ≡ true
 member_kept rows [] w e f = absurd cc
-member_kept rows (m ∷ ms) w e f = by_head (m.writer == w) (not (has_row_failed rows m.writer)) refl refl f (member_kept rows ms w e) where
-  by_head : (b c : Bool) → (m.writer == w) ≡ b → not (has_row_failed rows m.writer) ≡ c → (b || is_member ms w) ≡ true
-      → (is_member ms w ≡ true → is_member (filter (λ (x : Member). not (has_row_failed rows x.writer)) ms) w ≡ true)
-      → is_member (if c then m ∷ filter (λ (x : Member). not (has_row_failed rows x.writer)) ms else filter (λ (x : Member). not (has_row_failed rows x.writer)) ms) w ≡ true
-  by_head b true g h f ih = by_number b g f where
-    by_number : (b : Bool) → (m.writer == w) ≡ b → (b || is_member ms w) ≡ true → is_member (m ∷ filter (λ (x : Member). not (has_row_failed rows x.writer)) ms) w ≡ true
-    by_number true g f = or_left (m.writer == w) _ g
-    by_number false g f = or_right (m.writer == w) _ (ih f)
-  by_head true false g h f ih = both (not (has_row_failed rows m.writer)) (ap (λ n. not (has_row_failed rows n)) (number_is m.writer w g) ∙ e) h
-  by_head false false g h f ih = ih f
+member_kept rows (m ∷ ms) w e f = grind (arith, or_left, or_right, both, number_is, member_kept rows ms w e)
 
 -- ## what acts tell
-
-no_step : (i : Asking) (w now : ℕ) (os : List Open) (g : Option Group) → list_any (is_reply i w) (made_now os now g) ≡ false
-no_step i w now os g = grind arith
 
 -- whenever it was lost
 lost_when : (i : Asking) (w m n : ℕ) (o : Option Order) (ws : List ℕ) → list_any (is_reply i w) (deeds_lost m o ws) ≡ list_any (is_reply i w) (deeds_lost n o ws)
@@ -206,9 +160,6 @@ stage_for ToIdentify = Gathered
 stage_for ForConsent = Prepared
 stage_for AtCompletion = Finished
 
-prepares_to : (c : Context) (t : Stage) → (t ≡ Started) × (has_writers c ≡ true) → stage_after c t ≡ Prepared
-prepares_to c t e = grind arith
-
 not_opened : (i : Asking) → Opened ≡ stage_for i → ⊥
 not_opened i e = grind arith
 
@@ -218,14 +169,8 @@ not_started i e = grind arith
 not_done : (i : Asking) → Done ≡ stage_for i → ⊥
 not_done i e = grind arith
 
-gather_is : (i : Asking) → asks op.Gather i ≡ true → i ≡ ToIdentify
-gather_is i e = grind arith
-
 gather_not : (i : Asking) → asks op.Gather i ≡ false → (Gather ≡ kind_for i → ⊥) × (Gathered ≡ stage_for i → ⊥)
 gather_not i e = grind arith
-
-prepare_is : (i : Asking) → asks op.Prepare i ≡ true → i ≡ ForConsent
-prepare_is i e = grind arith
 
 prepare_not : (i : Asking) → asks op.Prepare i ≡ false → (Prepare ≡ kind_for i → ⊥) × (Prepared ≡ stage_for i → ⊥)
 prepare_not i e = grind arith
@@ -245,9 +190,6 @@ started_now q e = let parts = and_parts (is_stage q.stage Started) (has_writers 
 done_now : (q : Session) → (is_stage q.stage Done && has_writers q.context) ≡ true → q.stage ≡ Done
 done_now q e = is_done_stage q.stage (and_parts (is_stage q.stage Done) (has_writers q.context) e).0
 
-not_snapshot : (i : Asking) → Snapshot ≡ kind_for i → ⊥
-not_snapshot i e = grind arith
-
 failed_stage : {X : Type 0} (i : Asking) (why : VssResult) (o : Option Session) (q : Session) → option_map (set_failed why) o ≡ Some q → q.stage ≡ stage_for i → X
 failed_stage i why o q e f = grind arith
 
@@ -265,12 +207,8 @@ module _ (s : Plan) (so_far : List Act) (i : Asking) (w : ℕ) where
     abbrev Next : Event → Mark → Replied → Type 0
     Next event mark x = Stands i w x.1 (owes_after i w s so_far event x.0 x.1.clock c)
 
-    -- a line that tells nothing
-    line_flag : (lane now : ℕ) (o : Op) (told : Reply) → line_ticks o ≡ None → (asks o i && is_pending told) ≡ false → c ≡ owes_after i w s so_far (Line lane o) told now c
-    line_flag lane now o told e f = grind arith
-
     tells_none : (lane : ℕ) (o : Op) (mark : Mark) (told : Reply) (x : State) → line_ticks o ≡ None → (asks o i && is_pending told) ≡ false → Stands i w x c → Next (Line lane o) mark (told, x)
-    tells_none lane o mark told x e f k = subst (Stands i w x) (line_flag lane x.clock o told e f) k
+    tells_none lane o mark told x e f k = subst (Stands i w x) (grind arith) k
 
     beside : (x : State) → x.course ≡ st.course → ((q : Session) → x.session ≡ Some q → q.stage ≡ stage_for i → st.session ≡ Some q) → Stands i w x c
     beside x e own = grind arith
@@ -282,18 +220,9 @@ module _ (s : Plan) (so_far : List Act) (i : Asking) (w : ℕ) where
     unfolding course_failed
     on_failed o why x e f = grind arith
 
-    on_room : (b : Bool) (x : State) → x.course ≡ st.course → x.session ≡ st.session → Stands i w (with_room_if b x) c
-    on_room b x e f = grind (arith, on_failed, same)
-
-    on_put : (v : ℕ) (b : Write) (mark : Mark) (x : State) → Stands i w x c → Stands i w (put v b mark x) c
-    on_put v b mark x k = grind arith
-
     on_write : (v : ℕ) (b : Write) (mark : Mark) → Stands i w (write s v b mark st).1 c
     unfolding write
-    on_write v b mark = grind (arith, on_put, on_room)
-
-    on_reverts : (v : ℕ) (k : Kept) (mark : Mark) → Stands i w (reverted_as s v k mark st).1 c
-    on_reverts v k mark = grind arith
+    on_write v b mark = grind (arith, on_failed, same)
 
     on_close : (q : Session) (x : State) → Stands i w (closed q x) c
     unfolding closed released
@@ -344,17 +273,14 @@ module _ (s : Plan) (so_far : List Act) (i : Asking) (w : ℕ) where
         (grows_answered u o (said_of answer) st.clock st.course e) (answer_turn s so_far u (said_of answer)) (calm_kept.answers u (said_of answer) st (ap is_some e) (calm_always s so_far)).1
         (λ e. (and_parts c _ e).0) (λ e. unless _ (and_parts c _ e).1)
 
-    step_course : (b : Bool) (g : Option Group) (v : Option ℕ) → (stepped_as b g v st).course ≡ course_stepped (not b) st.clock st.course
-    step_course b g v = grind (arith, course_followed)
-
     on_steps : (mark : Mark) (told : Reply) → is_working (left_now st) ≡ true → Next Provider mark (told, stepped mark st)
     unfolding stepped
     on_steps mark told e =
         let b = is_failed_step (is_flush (open_group (left_now st))) mark in
         let k = course_stepped (not b) st.clock st.course in
-        goes (stepped mark st) _ k (made_now (left st.course.agenda) st.clock (open_group (left st.course.agenda))) (step_course b (open_group (left_now st)) (next_volume (left_now st)))
+        goes (stepped mark st) _ k (made_now (left st.course.agenda) st.clock (open_group (left st.course.agenda))) (grind (arith, course_followed))
         (grows_stepped (not b) st.clock st.course e) (step_turn s so_far mark e) (calm_kept.steps mark st e (calm_always s so_far)).1
-        (λ e. (and_parts c _ e).0) (λ e. no_step i w st.clock (left st.course.agenda) (open_group (left st.course.agenda)))
+        (λ e. (and_parts c _ e).0) (λ e. grind arith)
 
     -- an agenda of another kind begins
     begins_other : (lane : ℕ) (o : Op) (mark : Mark) (k : Kind) (ms : List Member) (vs : List ℕ) (y : Course) → line_ticks o ≡ None → asks o i ≡ false → (k ≡ kind_for i → ⊥)
@@ -368,14 +294,8 @@ module _ (s : Plan) (so_far : List Act) (i : Asking) (w : ℕ) where
           x : State
           x = followed true (begun k ms vs st.clock y) st
 
-          over_by : (q : Session) (p : Option Session) → st.session ≡ p → option_map agenda_ended p ≡ Some q → q.stage ≡ stage_for i → c ≡ false
-          over_by q None e f g = absurd cc
-          over_by q (Some p) e f g = absurd (never p e (ap (λ (z : Session). z.stage) (some_same (agenda_ended p) q f) ∙ g))
-
           done_by : (q : Session) → x.session ≡ Some q → q.stage ≡ stage_for i → Turn st x true → c ≡ false
-          done_by q g stage (inl t) = failed_stage i t.why st.session q (sym t.session ∙ g) stage
-          done_by q g stage (inr (inl t)) = over_by q st.session refl (sym t.session ∙ g) stage
-          done_by q g stage (inr (inr t)) = h.done q (sym t.session ∙ g) stage
+          done_by q g stage e = grind (arith, failed_stage, some_same)
 
     -- the agenda that asks begins
     begins_own : (lane : ℕ) (o : Op) (mark : Mark) (ms : List Member) (y : Course) → asks o i ≡ true → (is_asked_of w i s so_far ≡ true → is_member ms w ≡ true)
@@ -417,12 +337,6 @@ module _ (s : Plan) (so_far : List Act) (i : Asking) (w : ℕ) where
     in_stage : {X : Type 0} (p q : Session) (t : Stage) → Some p ≡ Some q → p.stage ≡ t → (t ≡ stage_for i → ⊥) → q.stage ≡ stage_for i → X
     in_stage p q t e f never g = absurd (never (sym f ∙ ap (λ (z : Session). z.stage) (some_same p q e) ∙ g))
 
-    not_asked : (o : Op) (told : Reply) → (begins_agenda o ≡ true → is_pending told ≡ false) → (asks o i && is_pending told) ≡ false
-    not_asked o told f = grind arith
-
-    write_not_asked : (o : Op) (t : Target) (told : Reply) → target_of o ≡ Some t → (asks o i && is_pending told) ≡ false
-    write_not_asked o t told e = grind arith
-
     -- ## the lines that ask
 
     follows : Follows s w st (choosing s w so_far)
@@ -434,7 +348,7 @@ module _ (s : Plan) (so_far : List Act) (i : Asking) (w : ℕ) where
         (begins_own lane op.Gather mark ms y e member (at_stage q Opened g.stands (opened_now q g.allowed) (not_opened i)) (begun_turn s so_far _ (calm_begun (kind_for i) ms [] st.clock y)))
       where
         same : i ≡ ToIdentify
-        same = gather_is i e
+        same = grind arith
 
         ms : List Member
         ms = members_from (λ u. not (is_disabled s st u)) 0 st.course.rows
@@ -462,7 +376,7 @@ module _ (s : Plan) (so_far : List Act) (i : Asking) (w : ℕ) where
         (begins_own lane op.Prepare mark ms y e (λ a. asked_are s w st (choosing s w so_far) follows q g.stands ∙ subst (λ k. is_asked_of w k s so_far ≡ true) same a)
         (at_stage q Started g.stands (started_now q g.allowed).0 (not_started i)) (begun_turn s so_far _ (calm_begun (kind_for i) ms [] st.clock y))) where
           same : i ≡ ForConsent
-          same = prepare_is i e
+          same = grind arith
 
           ms : List Member
           ms = asked_by s w st (choosing s w so_far) follows q
@@ -471,7 +385,7 @@ module _ (s : Plan) (so_far : List Act) (i : Asking) (w : ℕ) where
           y = record st.course { members = ms }
     on_prepares lane q mark g false e =
         begins_other lane op.Prepare mark Prepare _ [] _ refl e (prepare_not i e).0 (begun_turn s so_far _ (calm_begun Prepare _ [] st.clock _))
-        (to_stage q Prepared g.stands (prepares_to q.context q.stage (started_now q g.allowed)) (prepare_not i e).1)
+        (to_stage q Prepared g.stands (grind (arith, started_now q g.allowed)) (prepare_not i e).1)
 
     on_completes : (lane : ℕ) (q : Session) (mark : Mark) → LetsGo call.Complete q st → (b : Bool) → asks op.Complete i ≡ b → Next (Line lane op.Complete) mark (complete st)
     on_completes lane q mark g true e =
@@ -494,9 +408,9 @@ module _ (s : Plan) (so_far : List Act) (i : Asking) (w : ℕ) where
 
     every_act : Covers Next s st
     every_act = record {
-      stays = λ lane o mark told e f. tells_none lane o mark told st e (not_asked o told f.agenda) h;
-      writes = λ lane o v b mark e f. tells_none lane o mark (write s v b mark st).0 (write s v b mark st).1 (write_ticks o _ e) (write_not_asked o _ (write s v b mark st).0 e) (on_write v b mark);
-      reverts = λ lane n v k mark e f. tells_none lane (op.Revert n v) mark (reverted_as s v k mark st).0 (reverted_as s v k mark st).1 refl refl (on_reverts v k mark);
+      stays = λ lane o mark told e f. tells_none lane o mark told st e (grind (arith, f.agenda)) h;
+      writes = λ lane o v b mark e f. tells_none lane o mark (write s v b mark st).0 (write s v b mark st).1 (write_ticks o _ e) (grind arith) (on_write v b mark);
+      reverts = λ lane n v k mark e f. tells_none lane (op.Revert n v) mark (reverted_as s v k mark st).0 (reverted_as s v k mark st).1 refl refl (grind arith);
       deletes_set = λ lane n k mark e. tells_none lane (op.DeleteSet n) mark (Deleted k) _ refl refl (same _ refl refl);
       deletes_image = λ lane n v k mark e. tells_none lane (op.DeleteImage n v) mark (Deleted 1) _ refl refl (same _ refl refl);
       ticks = λ lane n mark. on_ticks n (ticked n st).clock;
@@ -509,7 +423,7 @@ module _ (s : Plan) (so_far : List Act) (i : Asking) (w : ℕ) where
           (beside (start_set q st).1 refl (λ p f k. in_stage (session_started (new_number st) q) p Started f refl (not_started i) k));
       adds = λ lane v r q mark g e f. tells_none lane (op.Add v) mark Fine _ refl refl (same _ refl refl);
       prepares = λ lane q mark g f. on_prepares lane q mark g (asks op.Prepare i) refl;
-      snapshots = λ lane q mark g f. begins_other lane op.Snapshot mark Snapshot st.course.members _ st.course refl refl (λ e. not_snapshot i e)
+      snapshots = λ lane q mark g f. begins_other lane op.Snapshot mark Snapshot st.course.members _ st.course refl refl (λ e. grind arith)
           (begun_turn s so_far _ (calm_begun Snapshot st.course.members _ st.clock st.course)) (to_stage q Done g.stands (snapshots q.context q.stage g.allowed) (not_done i));
       completes = λ lane q mark g. on_completes lane q mark g (asks op.Complete i) refl;
       aborts = λ lane q mark e. tells_none lane op.Abort mark Fine (failed AsyncCancelled st) refl refl (on_failed (in_progress st) AsyncCancelled st refl refl);
@@ -520,8 +434,7 @@ module _ (s : Plan) (so_far : List Act) (i : Asking) (w : ℕ) where
     }
 
     stands_if : (b : Bool) (act : Act) → enabled s st act.event ≡ b → Stands i w (after s st act) (owes_if b i w s so_far act c)
-    stands_if true act e = told_covered Next s st every_act act e
-    stands_if false act e = subst (λ x. Stands i w x c) (sym (after_not_enabled s st act e)) h
+    stands_if b act e = grind (arith, told_covered, every_act, after_not_enabled)
 
 -- ## every list of acts
 
@@ -541,7 +454,4 @@ nobody_owes s so_far asking w q e quiet step =
     let at : StandsAt q false (progress s so_far) = subst (λ b. StandsAt q b (progress s so_far)) quiet (stands_all s so_far q e) in
     (stands_always s asking w so_far).done q e (at.stage ∙ stage_is asking (progress s so_far).step step) where
       stage_is : (i : Asking) (t : Step) → is_step t (step_for i) ≡ true → stage_of t ≡ stage_for i
-      stage_is ToIdentify ByGather e = refl
-      stage_is ForConsent ByPrepare e = refl
-      stage_is AtCompletion ByComplete e = refl
-      stage_is i t e = absurd cc
+      stage_is i t e = grind arith

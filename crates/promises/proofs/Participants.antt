@@ -1,6 +1,5 @@
 -- Who takes part: those that the session's accepted `prepare` chose, none of a disabled class.
 use Rattle.std.proofs.Common.{◌≡◌, ◌∙◌, ℕ, ◌==◌, List, [], ◌∷◌, ◌++◌, Option, Some, None, refl, Bool, true, false, ap, sym, subst, map, fold, length, arith}
-use Rattle.std.proofs.Common.{◌+◌}
 use Rattle.std.specs.Prelude.{◌&&◌, ◌||◌, not, if◌then◌else◌, slice_get}
 use Rattle.set_agenda.specs.declared.kind.Kind.TheVariants as kind
 use Rattle.set_agenda.proofs.Closings.{unless}
@@ -10,10 +9,10 @@ use Rattle.vss_model.specs.Sessions.{is_disabled, is_known, known_metas, has_fai
 use Rattle.vss_model.proofs.StateForm.{closed}
 use Rattle.promises.proofs.Members.{is_selected, selected_are, same_course, SameChoice, same_choice, same_beside, mode_in, on_begun, on_agenda_begun}
 use Rattle.promises.proofs.Members.{on_followed, on_failed_in, on_answered, on_ticked, on_stepped, on_write, on_revert}
-use Rattle.promises.proofs.Words.{list_any, length-map, list_any-append, Context, AsyncCancelled, row_gathered, row_ended, Mark, said_of, Meta, Member}
-use Rattle.promises.proofs.Words.{is_among, Pair, Names, naming, naming_of, naming_found, naming_if, has_pair, found_in, with_pair, comes_before, takers, Mode}
-use Rattle.promises.proofs.Words.{Session, mode_of, opened, Op, Target, target_of, Plan, class_of, token, Event, Reply, State, start, in_progress}
-use Rattle.promises.proofs.Words.{row_of_writer, followed, failed, Replied, write, Act, enabled, idle_now, after, state, Choosing, unsaid, is_chosen, line_says}
+use Rattle.promises.proofs.Words.{list_any, length-map, list_any-append, AsyncCancelled, row_gathered, row_ended, Mark, said_of, Meta, Member}
+use Rattle.promises.proofs.Words.{is_among, Pair, Names, naming, naming_of, naming_found, naming_if, has_pair, found_in, with_pair, takers, Mode}
+use Rattle.promises.proofs.Words.{Session, mode_of, Op, Plan, class_of, token, Event, Reply, State, start, in_progress}
+use Rattle.promises.proofs.Words.{row_of_writer, followed, failed, Replied, write, Act, enabled, idle_now, after, state, Choosing, unsaid, is_chosen}
 use Rattle.promises.proofs.Words.{event_says, is_unfit, choosing_if, choosing_from, choosing, is_writer, ChosenTakePart, Covers, ChangesNothing}
 use Rattle.promises.proofs.Words.{after_not_enabled, told_covered, Course, begun, is_member, members_from, prepared as course_prepared, released, disable}
 use Rattle.promises.proofs.Words.{or-false, list_all, AsyncPending, names_selectable, is_ascending, begins_agenda, Line, Coded, SetRow, reply, is_pending}
@@ -43,35 +42,18 @@ pub record Follows (s : Plan) (w : ℕ) (st : State) (c : Choosing) : Type 0 whe
 follows_same : (s : Plan) (w : ℕ) (st x : State) (c : Choosing) → SameChoice st x → Follows s w st c → Follows s w x c
 follows_same s w st x c e h = grind arith
 
--- ## what lines say
-
-says_nothing : (s : Plan) (w : ℕ) (f : Bool) (c : Choosing) (o : Op) (told : Reply) → ChangesNothing o told → line_says s w f o told c ≡ c
-says_nothing s w f c o told g = grind arith
-
--- a write
-says_no_write : (s : Plan) (w : ℕ) (f : Bool) (c : Choosing) (o : Op) (t : Target) (told : Reply) → target_of o ≡ Some t → line_says s w f o told c ≡ c
-says_no_write s w f c o t told e = grind arith
-
 -- ## what a line names
-
-behind : (a b c : Bool) → (a || (b || c)) ≡ ((b || c) || a)
-behind a b c = grind arith
 
 within : (b c d e : Bool) → d ≡ (c || e) → (b || d) ≡ ((b || c) || e)
 within b c d e f = grind arith
 
 pub pair_added : (test : Pair → Bool) (q : Pair) (ps : List Pair) → list_any test (with_pair q ps) ≡ (list_any test ps || test q)
 pair_added test q [] = or-false (test q)
-pair_added test q (p ∷ ps) = by_place (comes_before q p) (pair_added test q ps) where
-  by_place : (b : Bool) → list_any test (with_pair q ps) ≡ (list_any test ps || test q) → list_any test (if b then q ∷ p ∷ ps else p ∷ with_pair q ps) ≡ ((test p || list_any test ps) || test q)
-  by_place true ih = behind (test q) (test p) (list_any test ps)
-  by_place false ih = within (test p) (list_any test ps) (list_any test (with_pair q ps)) (test q) ih
+pair_added test q (p ∷ ps) = grind (arith, within, pair_added test q ps)
 
 named_if : (w : ℕ) (q : Pair) (ps new : List Pair) (a b : Bool) → naming_if a b q ps ≡ Names new
     → list_any (λ (p : Pair). p.writer == w) new ≡ (list_any (λ (p : Pair). p.writer == w) ps || (q.writer == w))
-named_if w q ps new false b e = absurd cc
-named_if w q ps new true true e = absurd cc
-named_if w q ps new true false e = let same : with_pair q ps ≡ new = cc in ap (list_any (λ (p : Pair). p.writer == w)) (sym same) ∙ pair_added (λ (p : Pair). p.writer == w) q ps
+named_if w q ps new a b e = grind (arith, pair_added)
 
 named_of : (w u : ℕ) (name : List ℕ) (o : Option (Option Meta)) (ps new : List Pair) → naming_of u name o ps ≡ Names new
     → list_any (λ (p : Pair). p.writer == w) new ≡ (list_any (λ (p : Pair). p.writer == w) ps || (u == w))
@@ -108,9 +90,6 @@ module _ (s : Plan) (w : ℕ) (st : State) (c : Choosing) (h : Follows s w st c)
   -- sets, volumes and the clock alone change
   beside : (x : State) → x.explicit ≡ st.explicit → x.course ≡ st.course → mode_in x.session ≡ mode_in st.session → Follows s w x c
   beside x e f g = same x (same_beside st x e f g)
-
-  on_begin : (lane : ℕ) (all : Bool) (x : Context) → st.session ≡ None → ChosenIn None s w st c → Follows s w (record st { session = Some (opened lane x all); explicit = [] }) (unsaid all)
-  on_begin lane all x e none = grind arith
 
   on_disable : (u : ℕ) (q : Session) → st.session ≡ Some q → Follows s w (disable u st).1 (record c { disabled = c.disabled || (class_of s u == class_of s w) })
   on_disable u q e = grind (arith, standing, stands_on, one_disabled)
@@ -151,13 +130,13 @@ module _ (s : Plan) (w : ℕ) (st : State) (c : Choosing) (h : Follows s w st c)
 
   follows : Covers Next s st
   follows = record {
-    stays = λ lane o mark told e f. subst (Follows s w st) (sym (says_nothing s w (is_unfit st w) c o told f)) h;
-    writes = λ lane o v u mark e f. subst (Follows s w (write s v u mark st).1) (sym (says_no_write s w (is_unfit st w) c o _ (write s v u mark st).0 e)) (same _ (on_write s v u mark st));
+    stays = λ lane o mark told e f. subst (Follows s w st) (sym (grind arith)) h;
+    writes = λ lane o v u mark e f. subst (Follows s w (write s v u mark st).1) (sym (grind arith)) (same _ (on_write s v u mark st));
     reverts = λ lane n v k mark e f. same _ (on_revert s v k mark st);
     deletes_set = λ lane n x mark e. beside _ refl refl refl;
     deletes_image = λ lane n v k mark e. beside _ refl refl refl;
     ticks = λ lane n mark. same _ (on_ticked n st);
-    begins = λ lane n all x mark e ctx. on_begin lane all x e (subst (λ (o : Option Session). ChosenIn (mode_in o) s w st c) e h.chosen);
+    begins = λ lane n all x mark e ctx. grind (arith, subst (λ (o : Option Session). ChosenIn (mode_in o) s w st c) e h.chosen);
     disables = λ lane u q mark g. on_disable u q g.stands;
     gathers = λ lane q mark g. same _
         (on_agenda_begun kind.Gather _ [] st st (record st.course { rows = map row_gathered st.course.rows }) (same_choice st)
@@ -208,9 +187,6 @@ module _ (s : Plan) (st : State) where
   unfolding closed
   closed_none q x e = e
 
-  none_some : {X : Type 0} (o : Option SetRow) (r : SetRow) → o ≡ None → o ≡ Some r → X
-  none_some o r e f = absurd cc
-
   stays : Covers Stays s st
   stays = record {
     stays = λ lane o mark told e f r g h. refl;
@@ -232,7 +208,7 @@ module _ (s : Plan) (st : State) where
         (on_agenda_begun kind.Snapshot st.course.members (volumes_of (in_progress st)) st st st.course (same_choice st) (same_course st.course)).course.members;
     completes = λ lane q mark e r g h. (on_agenda_begun kind.Complete _ [] st st st.course (same_choice st) (same_course st.course)).course.members;
     aborts = λ lane q mark e r g h. (on_failed_in (in_progress st) AsyncCancelled st st (same_choice st)).course.members;
-    ends = λ lane q mark e r g h. none_some _ r (closed_none q (failed AsyncCancelled st) (none_after (in_progress st) AsyncCancelled st refl)) h;
+    ends = λ lane q mark e r g h. grind (arith, closed_none q (failed AsyncCancelled st) (none_after (in_progress st) AsyncCancelled st refl));
     answers = λ w answer mark e r g h. (on_answered w (said_of answer) st).course.members;
     steps = λ mark e r g h. (on_stepped mark st).course.members;
     idles = λ mark e r g h. (on_ticked (idle_now st) st).course.members;
@@ -246,12 +222,10 @@ module _ (s : Plan) (st : State) where
 
 pub named_is_known : (s : Plan) (st : State) (w : ℕ) → AreOver (known_metas s st) st.explicit → list_any (λ (p : Pair). p.writer == w) st.explicit ≡ true → is_known s st w ≡ true
 named_is_known s st w over e =
-    subst (λ x. is_known s st x ≡ true) (zero_plus w)
+    subst (λ x. is_known s st x ≡ true) (omega arith)
     (known_at s st 0 s.writers w
     (named_known (known_metas s st) st.explicit w
-    (and_left (list_all (names_selectable (known_metas s st)) st.explicit) (is_ascending st.explicit) over) e)) where
-      zero_plus : (a : ℕ) → 0 + a ≡ a
-      zero_plus a = omega arith
+    (and_left (list_all (names_selectable (known_metas s st)) st.explicit) (is_ascending st.explicit) over) e))
 
 named_enabled : (s : Plan) (st : State) (w : ℕ) → AreOver (known_metas s st) st.explicit → list_any (λ (p : Pair). p.writer == w) st.explicit ≡ true → is_disabled s st w ≡ false
 named_enabled s st w over e = unless (is_disabled s st w) (and_left (not (is_disabled s st w)) (not (has_failed_identify (slice_get st.course.rows w))) (named_is_known s st w over e))
@@ -263,17 +237,11 @@ module _ (s : Plan) (w : ℕ) (st : State) (c : Choosing) (h : Follows s w st c)
   Chooses event mark x = (lane : ℕ) → event ≡ Line lane Prepare → x.0 ≡ Coded AsyncPending
       → (is_member x.1.course.members w ≡ (is_writer s w && is_chosen (is_unfit st w) c)) × (is_chosen (is_unfit st w) c ≡ true → c.disabled ≡ false)
 
-  both : {X : Type 0} (b : Bool) → b ≡ true → b ≡ false → X
-  both b e f = absurd cc
-
   same_op : (o : Op) (lane other : ℕ) → Line lane o ≡ Line other Prepare → o ≡ Prepare
   same_op o lane other e = cc
 
   not_pending : {X : Type 0} (o : Op) (told : Reply) (lane other : ℕ) → Line lane o ≡ Line other Prepare → ChangesNothing o told → told ≡ Coded AsyncPending → X
-  not_pending o told lane other e f g = both (is_pending told) (ap is_pending g) (f.agenda (ap begins_agenda (same_op o lane other e)))
-
-  writes_nothing : {X : Type 0} (o : Op) (t : Target) (lane other : ℕ) → Line lane o ≡ Line other Prepare → target_of o ≡ Some t → X
-  writes_nothing o t lane other e f = grind arith
+  not_pending o told lane other e f g = grind (arith, ap is_pending g, f.agenda (ap begins_agenda (same_op o lane other e)))
 
   enabled_by : (m : Mode) (all : Bool) → m ≡ mode_of all → list_any (λ (p : Pair). p.writer == w) st.explicit ≡ c.named → is_disabled s st w ≡ c.disabled
       → (if all then not c.disabled && not (is_unfit st w) else c.named) ≡ true → c.disabled ≡ false
@@ -291,7 +259,7 @@ module _ (s : Plan) (w : ℕ) (st : State) (c : Choosing) (h : Follows s w st c)
   prepared_now q e = let k = standing s w st c h q e in (ap (λ ms. is_member ms w) (members_fixed q) ∙ asked_are s w st c h q e, enabled_by q.mode c.all k.mode k.named k.disabled)
 
   chooses : Covers Chooses s st
-  chooses = grind (arith, stays, not_pending, writes_nothing, prepared_now)
+  chooses = grind (arith, stays, not_pending, prepared_now)
 
   chosen_in : (act : Act) (lane : ℕ) → act.event ≡ Line lane Prepare → enabled s st act.event ≡ true → reply s st act ≡ Coded AsyncPending
       → (is_member (after s st act).course.members w ≡ (is_writer s w && is_chosen (is_unfit st w) c)) × (is_chosen (is_unfit st w) c ≡ true → c.disabled ≡ false)

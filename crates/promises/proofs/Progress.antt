@@ -1,16 +1,15 @@
 -- A session stands where its accepted lines have brought it.
 use Rattle.std.proofs.Common.{◌≡◌, ◌∙◌, ℕ, List, [], ◌∷◌, ◌++◌, Option, Some, None, refl, Bool, true, false, ap, sym, subst, inl, inr, fold, arith}
 use Rattle.std.specs.Prelude.{is_some, option_map, option_and_then, if◌then◌else◌}
-use Rattle.promises.proofs.Words.{Context, VssResult, AsyncPending, AsyncCancelled, number_of, context_of_number, IsLookUp-context_of_number, Mark}
-use Rattle.promises.proofs.Words.{Clean, said_of, open_group, next_volume, Course, Stage, Session, has_writers, makes_set}
-use Rattle.promises.proofs.Words.{context_of, context_if, without_all, mode_of, opened, started as session_started, stage_after, agenda_ended, set_failed}
-use Rattle.promises.proofs.Words.{is_stage, Op, Target, target_of, Plan, Event, Reply, Fine, Coded, Deleted, Idled, State, SetRow, start, in_progress, left_now}
-use Rattle.promises.proofs.Words.{followed, runs, failed, Replied, write, reverted_as, LetsGo, IsAgendaOf, IsOfSession, has_failed, Act, by_last}
-use Rattle.promises.proofs.Words.{order_of_writer, enabled, answer_reply, step_reply, idle_now, after, state, state-append, orderly, set_failure, Step, ByBegin}
-use Rattle.promises.proofs.Words.{ByGather, ByStart, ByPrepare, BySnapshot, ByComplete, ByFailure, Progress, line_brings, event_brings, lost_if, progress_after}
-use Rattle.promises.proofs.Words.{progress_if, progress_from, progress, HasItsContext, set_fails, Covers, ChangesNothing, after_not_enabled, told_covered}
-use Rattle.promises.proofs.Words.{some_same, and_parts, Opened, Gathered, Started, Prepared, Done, Finished, Line, Provider, Idle}
-use Rattle.promises.proofs.Words.{new_number, start_set, closed, is_opened, is_started, is_done_stage}
+use Rattle.promises.proofs.Words.{Context, VssResult, AsyncPending, AsyncCancelled, number_of, context_of_number, IsLookUp-context_of_number, Mark, Clean}
+use Rattle.promises.proofs.Words.{said_of, open_group, next_volume, Course, Stage, Session, has_writers, makes_set, context_of, context_if, without_all}
+use Rattle.promises.proofs.Words.{mode_of, opened, started as session_started, stage_after, agenda_ended, set_failed, is_stage, Op, Plan, Event, Reply, Fine}
+use Rattle.promises.proofs.Words.{Coded, Deleted, Idled, State, SetRow, start, in_progress, left_now, followed, runs, failed, Replied, write, reverted_as}
+use Rattle.promises.proofs.Words.{LetsGo, IsAgendaOf, IsOfSession, has_failed, Act, by_last, order_of_writer, enabled, answer_reply, step_reply, idle_now}
+use Rattle.promises.proofs.Words.{after, state, state-append, orderly, set_failure, Step, ByBegin, ByGather, ByStart, ByPrepare, BySnapshot, ByComplete}
+use Rattle.promises.proofs.Words.{ByFailure, Progress, line_brings, event_brings, lost_if, progress_after, progress_if, progress_from, progress, HasItsContext}
+use Rattle.promises.proofs.Words.{set_fails, Covers, after_not_enabled, told_covered, some_same, and_parts, Opened, Gathered, Started, Prepared, Done, Finished}
+use Rattle.promises.proofs.Words.{Line, Provider, Idle, new_number, start_set, closed, is_opened, is_started, is_done_stage}
 use Rattle.set_agenda.specs.declared.kind.Kind.TheVariants as kind
 use Rattle.requestor.specs.declared.stage.Stage.TheVariants.{Failed}
 use Rattle.requestor.specs.declared.session_call.SessionCall.TheVariants as call
@@ -60,12 +59,6 @@ context_is n all c e = by_number (context_of_number n) refl e where
   by_number : (o : Option Context) → context_of_number n ≡ o → option_and_then (without_all all) o ≡ Some c → number_of c ≡ n
   by_number None f e = absurd cc
   by_number (Some a) f e = ap number_of (sym (by_mode all a e)) ∙ (IsLookUp-context_of_number n (Some a) (sym f)).has
-
-brings_none : (o : Op) (told : Reply) (p : Progress) → ChangesNothing o told → line_brings o told p ≡ p
-brings_none o told p g = grind arith
-
-write_brings : (o : Op) (t : Target) (told : Reply) (p : Progress) → target_of o ≡ Some t → line_brings o told p ≡ p
-write_brings o t told p e = grind arith
 
 prepares : (c : Context) → has_writers c ≡ true → stage_after c Started ≡ Prepared
 prepares c e = grind arith
@@ -141,8 +134,7 @@ module _ (s : Plan) (so_far : List Act) (p : Progress) where
     no_set : st.session ≡ None → (x : State) → set_fails (in_progress st) x ≡ false
     no_set e x = by_set (in_progress st) (subst (λ o. IsOfSession o st.course.outcome (in_progress st)) e (orderly s so_far).session) where
       by_set : (o : Option SetRow) → IsOfSession None st.course.outcome o → set_fails o x ≡ false
-      by_set None i = refl
-      by_set (Some r) i = absurd i
+      by_set o i = grind arith
 
     on_opened : (lane n : ℕ) (all : Bool) (c : Context) → st.session ≡ None → context_of n all ≡ Some c
         → Next (Line lane (op.Begin n all)) Clean (Fine, record st { session = Some (opened lane c all); explicit = [] })
@@ -167,8 +159,8 @@ module _ (s : Plan) (so_far : List Act) (p : Progress) where
 
     stands_on : Covers Next s st
     stands_on = record {
-      stays = λ lane o mark told e f. quiet (Line lane o) told st (brings_none o told p f) refl (λ n. refl) refl;
-      writes = λ lane o v w mark e f. goes (Line lane o) (write s v w mark st).0 _ (write_brings o _ (write s v w mark st).0 p e) (write_turn s so_far v w mark);
+      stays = λ lane o mark told e f. quiet (Line lane o) told st (grind arith) refl (λ n. refl) refl;
+      writes = λ lane o v w mark e f. goes (Line lane o) (write s v w mark st).0 _ (grind arith) (write_turn s so_far v w mark);
       reverts = λ lane n v k mark e f. goes (Line lane (op.Revert n v)) (reverted_as s v k mark st).0 _ refl (revert_turn s so_far v k mark);
       deletes_set = λ lane n c mark e. quiet (Line lane (op.DeleteSet n)) (Deleted c) _ refl refl (λ m. refl) refl;
       deletes_image = λ lane n v k mark e. quiet (Line lane (op.DeleteImage n v)) (Deleted 1) _ refl refl (λ m. refl) refl;

@@ -1,7 +1,6 @@
 -- What a session call is answered that is not accepted, and by which images lines are.
-use Rattle.std.proofs.Common.{◌≡◌, ◌∙◌, ℕ, ◌+◌, ◌==◌, ◌<◌, zero, suc, List, [], ◌∷◌, Option, Some, None, refl, Bool, true, false, ap, sym, find, arith, subst}
-use Rattle.std.proofs.Common.{length}
-use Rattle.std.specs.Prelude.{◌&&◌, ◌||◌, nat_lt, is_some, if◌then◌else◌, not, nat_le, is_none, slice_get}
+use Rattle.std.proofs.Common.{◌≡◌, ◌∙◌, ℕ, ◌+◌, ◌==◌, zero, suc, List, [], ◌∷◌, Option, Some, None, refl, Bool, true, false, ap, sym, find, arith, subst}
+use Rattle.std.specs.Prelude.{◌&&◌, ◌||◌, nat_lt, is_some, if◌then◌else◌, not, is_none, slice_get}
 use Rattle.requestor.specs.declared.session_call.SessionCall.TheVariants as call
 use Rattle.scenario.specs.declared.op.Op.TheVariants as op
 use Rattle.vss_model.proofs.StateForm.{called}
@@ -10,14 +9,12 @@ use Rattle.promises.proofs.Progress.{stage_of, StandsAt, stands_all}
 use Rattle.promises.proofs.Words.{ObjectNotFound, UnsupportedContext, SnapshotSetInProgress, Mark, History, point_in, Plan, Line, Coded, Deleted, State, SetRow}
 use Rattle.promises.proofs.Words.{Kept, is_complete, in_progress, row_of, history_of, has_image, kept_of, kept_image, NumberedFrom, Act, state, orderly}
 use Rattle.promises.proofs.Words.{has_complete, at, is_kept, is_of_backup, has_in_it, revert_answer, is_deleted, FindsTheKept, and_parts, is_backup, is_in_set}
-use Rattle.promises.proofs.Words.{revert_refusal, count_images, revert_to, revert, delete_set, delete_kept, delete_image, none_below, bytes_eq, BadState}
-use Rattle.promises.proofs.Words.{ObjectAlreadyExists, MaximumNumberOfVolumesReached, MaximumNumberOfSnapshotsReached, Part, Meta, full_name, is_among, Pair}
-use Rattle.promises.proofs.Words.{has_pair, found_from, naming_if, naming_found, naming_of, Mode, SessionCall, Started, Session, has_writers, makes_set}
-use Rattle.promises.proofs.Words.{mode_of, check, check_other, owner_only, verdict_of, allows, is_stage, goes_beside_agenda, is_start, is_await, Op, token}
-use Rattle.promises.proofs.Words.{Reply, NotSelectable, runs, Replied, known_metas, named_as, component_in, most_volumes, most_images, add_to, add}
-use Rattle.promises.proofs.Words.{has_no_volume, judged, line_in, session_line, happens, owns, is_fine, is_ordered, is_accepted, ByBegin, ByGather, ByStart}
-use Rattle.promises.proofs.Words.{BySnapshot, Progress, progress, is_step, asks_writers, comes_now, name_refusal_in, name_refusal, place_refusal, want_refusal}
-use Rattle.promises.proofs.Words.{order_refusal, RefusesForCause}
+use Rattle.promises.proofs.Words.{revert_refusal, count_images, revert_to, revert, delete_set, delete_kept, delete_image, none_below, BadState, Part, Pair}
+use Rattle.promises.proofs.Words.{found_from, naming_found, Mode, SessionCall, Started, Session, has_writers, makes_set, mode_of, check, check_other}
+use Rattle.promises.proofs.Words.{owner_only, verdict_of, allows, is_stage, goes_beside_agenda, is_start, is_await, Op, token, Reply, runs, Replied}
+use Rattle.promises.proofs.Words.{known_metas, named_as, component_in, add, has_no_volume, judged, line_in, session_line, happens, owns, is_fine, is_ordered}
+use Rattle.promises.proofs.Words.{is_accepted, ByBegin, ByGather, ByStart, BySnapshot, Progress, progress, is_step, asks_writers, comes_now, name_refusal_in}
+use Rattle.promises.proofs.Words.{name_refusal, place_refusal, want_refusal, order_refusal, RefusesForCause}
 
 -- ## Lines find exactly the images that are kept, and a revert and a deletion are answered by that.
 
@@ -29,18 +26,7 @@ row_complete (Some r) = is_complete r.result
 
 complete_is : (k n : ℕ) (rows : List SetRow) → NumberedFrom k rows → has_complete rows n ≡ row_complete (find (λ (r : SetRow). r.number == n) rows)
 complete_is k n [] num = refl
-complete_is k n (r ∷ rows) num = by_head (r.number == n) refl (complete_is (k + 1) n rows num.1) where
-  or_off : (a b : Bool) → b ≡ false → (a || b) ≡ a
-  or_off true b e = refl
-  or_off false b e = e
-
-  below : (a b c : ℕ) → (a == b) ≡ true → a ≡ c → b < c + 1
-  below a b c e f = grind arith
-
-  by_head : (b : Bool) → (r.number == n) ≡ b → has_complete rows n ≡ row_complete (find (λ (x : SetRow). x.number == n) rows)
-      → ((b && is_complete r.result) || has_complete rows n) ≡ row_complete (if b then Some r else find (λ (x : SetRow). x.number == n) rows)
-  by_head true e ih = or_off (is_complete r.result) (has_complete rows n) (none_below (k + 1) n rows num.1 (below r.number n k e num.0))
-  by_head false e ih = ih
+complete_is k n (r ∷ rows) num = grind (arith, none_below, complete_is (k + 1) n rows num.1)
 
 module _ (s : Plan) (so_far : List Act) where
   abbrev st_kept : State
@@ -54,16 +40,9 @@ module _ (s : Plan) (so_far : List Act) where
 
   -- ## reverts
 
-  busy_is : (v : ℕ) (o : Option SetRow) → is_in_set v o ≡ has_in_it v o
-  busy_is v o = grind arith
-
   by_refusal : (v : ℕ) (k : Kept) (mark : Mark) (a b : Bool)
       → (revert_to s v (if a then Some UnsupportedContext else if b then Some SnapshotSetInProgress else None) (Some k) mark st_kept).0 ≡ revert_answer true a b mark
   by_refusal v k mark a b = grind arith
-
-  -- the row of a kept image is its set's
-  row_kept : (o : Option SetRow) (p : Option ℕ) (k : Kept) → kept_of o p ≡ Some k → is_backup k.row.context ≡ is_of_backup o
-  row_kept o p k e = grind arith
 
   revert_says : (n v : ℕ) (mark : Mark) → (revert s n v mark st_kept).0 ≡ revert_answer (is_kept st_kept n v) (is_of_backup (row_of st_kept n)) (has_in_it v (in_progress st_kept)) mark
   unfolding revert
@@ -76,8 +55,8 @@ module _ (s : Plan) (so_far : List Act) where
     by_kept (Some k) e =
         ap (λ o. (revert_to s v (revert_refusal v o st_kept) o mark st_kept).0) e
         ∙ by_refusal v k mark (is_backup k.row.context) (is_in_set v (in_progress st_kept))
-        ∙ ap (λ b. revert_answer true b (is_in_set v (in_progress st_kept)) mark) (row_kept (row_of st_kept n) (point_in n (history_of st_kept v).images) k e)
-        ∙ ap (λ b. revert_answer true (is_of_backup (row_of st_kept n)) b mark) (busy_is v (in_progress st_kept))
+        ∙ ap (λ b. revert_answer true b (is_in_set v (in_progress st_kept)) mark) (grind arith)
+        ∙ ap (λ b. revert_answer true (is_of_backup (row_of st_kept n)) b mark) (grind arith)
         ∙ ap (λ b. revert_answer b (is_of_backup (row_of st_kept n)) (has_in_it v (in_progress st_kept)) mark) (sym (sym (found n v) ∙ ap is_some e))
 
   -- ## deletions
@@ -85,12 +64,8 @@ module _ (s : Plan) (so_far : List Act) where
   some_counted : (n v : ℕ) (hs : List History) → has_image n (at hs v) ≡ true → nat_lt 0 (count_images n hs) ≡ true
   some_counted n zero [] e = absurd cc
   some_counted n (suc v) [] e = absurd cc
-  some_counted n zero (h ∷ hs) e = ap (λ b. nat_lt 0 ((if b then 1 else 0) + count_images n hs)) e ∙ positive (count_images n hs) where
-    positive : (k : ℕ) → nat_lt 0 (1 + k) ≡ true
-    positive k = grind arith
-  some_counted n (suc v) (h ∷ hs) e = more (if has_image n h then 1 else 0) (count_images n hs) (some_counted n v hs e) where
-    more : (a k : ℕ) → nat_lt 0 k ≡ true → nat_lt 0 (a + k) ≡ true
-    more a k e = grind arith
+  some_counted n zero (h ∷ hs) e = grind arith
+  some_counted n (suc v) (h ∷ hs) e = grind (arith, some_counted n v hs e)
 
   none_counted : (n : ℕ) (hs : List History) → ((v : ℕ) → has_image n (at hs v) ≡ false) → nat_lt 0 (count_images n hs) ≡ false
   none_counted n [] h = refl
@@ -111,8 +86,7 @@ module _ (s : Plan) (so_far : List Act) where
   unfolding delete_image
   image_says n v = by_kept (kept_image st_kept n v) ∙ ap (λ b. if b then Deleted 1 else Coded ObjectNotFound) (found n v) where
     by_kept : (o : Option Kept) → (delete_kept v o st_kept).0 ≡ (if is_some o then Deleted 1 else Coded ObjectNotFound)
-    by_kept None = refl
-    by_kept (Some k) = refl
+    by_kept o = grind arith
 
 pub finds_the_kept : (s : Plan) (so_far : List Act) (act : Act) → FindsTheKept s so_far act
 finds_the_kept s so_far act =
@@ -133,47 +107,15 @@ module _ (s : Plan) (st : State) where
   name_in : (w : ℕ) (named : List Pair) (name : List ℕ) (i : ℕ) (ps : List Part) → is_accepted (named_as (naming_found w (found_from name i ps) named) st).0 ≡ false
       → (named_as (naming_found w (found_from name i ps) named) st).0 ≡ name_refusal_in name ps
   name_in w named name i [] e = refl
-  name_in w named name i (p ∷ ps) e = by_name (bytes_eq (full_name p) name) (name_in w named name (i + 1) ps) e where
-    one : (a b : Bool) → is_accepted (named_as (naming_if a b (record { writer = w; component = i }) named) st).0 ≡ false
-        → (named_as (naming_if a b (record { writer = w; component = i }) named) st).0 ≡ (if a then Coded ObjectAlreadyExists else NotSelectable)
-    one false b e = refl
-    one true true e = refl
-    one true false e = absurd cc
-
-    by_name : (b : Bool)
-        → (is_accepted (named_as (naming_found w (found_from name (i + 1) ps) named) st).0 ≡ false → (named_as (naming_found w (found_from name (i + 1) ps) named) st).0 ≡ name_refusal_in name ps)
-        → is_accepted (named_as (naming_found w (if b then Some (record { component = i; selectable = p.selectable }) else found_from name (i + 1) ps) named) st).0 ≡ false
-        → (named_as (naming_found w (if b then Some (record { component = i; selectable = p.selectable }) else found_from name (i + 1) ps) named) st).0
-        ≡ (if b then (if p.selectable then Coded ObjectAlreadyExists else NotSelectable) else name_refusal_in name ps)
-    by_name true ih e = one p.selectable (has_pair named w i) e
-    by_name false ih e = ih e
-
-  name_of : (w : ℕ) (name : List ℕ) (m : Option (Option Meta)) → is_accepted (named_as (naming_of w name m st.explicit) st).0 ≡ false
-      → (named_as (naming_of w name m st.explicit) st).0 ≡ name_refusal name m
-  name_of w name (Some (Some m)) e = name_in w st.explicit name 0 m.parts e
-  name_of w name _ e = refl
+  name_in w named name i (p ∷ ps) e = grind (arith, name_in w named name (i + 1) ps)
 
   component_refused : (w : ℕ) (name : List ℕ) (mode : Mode) (all : Bool) → mode ≡ mode_of all → is_accepted (component_in mode s w name st).0 ≡ false
       → (component_in mode s w name st).0 ≡ (if all then Coded BadState else name_refusal name (slice_get (known_metas s st) w))
-  component_refused w name mode all e = grind (arith, name_of)
+  component_refused w name mode all e = grind (arith, name_in)
 
   add_refused : (v : ℕ) (o : Option SetRow) → is_accepted (add v o st).0 ≡ false → (add v o st).0 ≡ place_refusal v o
   add_refused v None e = refl
-  add_refused v (Some r) e = by_tests (is_among v r.volumes) (nat_le most_volumes (length r.volumes)) (nat_lt (length r.volumes) 64)
-      (nat_le most_images (length (history_of st v).images)) (not_full (length r.volumes)) e where
-        not_full : (n : ℕ) → nat_le most_volumes n ≡ not (nat_lt n 64)
-        not_full n = grind arith
-
-        by_tests : (a b d c : Bool) → b ≡ not d
-            → is_accepted (add_to v r (if a then Some ObjectAlreadyExists else if b then Some MaximumNumberOfVolumesReached else if c then Some MaximumNumberOfSnapshotsReached else None) st).0 ≡ false
-            → (add_to v r (if a then Some ObjectAlreadyExists else if b then Some MaximumNumberOfVolumesReached else if c then Some MaximumNumberOfSnapshotsReached else None) st).0
-            ≡ (if a then Coded ObjectAlreadyExists else if d then Coded MaximumNumberOfSnapshotsReached else Coded MaximumNumberOfVolumesReached)
-        by_tests true b d c f e = refl
-        by_tests false true false c f e = refl
-        by_tests false true true c f e = absurd cc
-        by_tests false false true true f e = refl
-        by_tests false false true false f e = absurd cc
-        by_tests false false false c f e = absurd cc
+  add_refused v (Some r) e = grind arith
 
   -- a call that waits for nothing but a set with a volume
   volume_refused : (b : Bool) (x y : Replied) → x.0 ≡ Coded BadState → is_accepted y.0 ≡ true → is_accepted (if b then x else y).0 ≡ false → (if b then x else y).0 ≡ Coded BadState
@@ -246,16 +188,10 @@ module _ (s : Plan) (so_far : List Act) (lane : ℕ) where
   other_call c o same beside waits other order bad wants e = grind (arith, refused_call)
 
   start_now : (q : Session) → st.session ≡ Some q → makes_set q.stage ≡ true → order_refusal op.Start (in_progress st) ≡ Coded SnapshotSetInProgress
-  start_now q e f = by_set (in_progress st) (sym (makes_its_set s so_far lane q e) ∙ f) where
-    by_set : (o : Option SetRow) → is_some o ≡ true → order_refusal op.Start o ≡ Coded SnapshotSetInProgress
-    by_set None e = absurd cc
-    by_set (Some r) e = refl
+  start_now q e f = grind (arith, sym (makes_its_set s so_far lane q e) ∙ f)
 
   start_idle : (q : Session) → st.session ≡ Some q → makes_set q.stage ≡ false → order_refusal op.Start (in_progress st) ≡ Coded BadState
-  start_idle q e f = by_set (in_progress st) (sym (makes_its_set s so_far lane q e) ∙ f) where
-    by_set : (o : Option SetRow) → is_some o ≡ false → order_refusal op.Start o ≡ Coded BadState
-    by_set None e = refl
-    by_set (Some r) e = absurd cc
+  start_idle q e f = grind (arith, sym (makes_its_set s so_far lane q e) ∙ f)
 
   abbrev w : Bool
   w = asks_writers p

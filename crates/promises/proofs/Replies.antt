@@ -1,11 +1,11 @@
 -- Replies and closing lines tell what stands, and the set that ends is told.
-use Rattle.std.proofs.Common.{◌≡◌, ◌∙◌, ℕ, ◌==◌, List, [], ◌∷◌, Option, Some, None, refl, Bool, true, false, ap, sym, map, filter, arith, length, ◌+◌, ◌≤◌}
+use Rattle.std.proofs.Common.{◌≡◌, ◌∙◌, ℕ, ◌==◌, List, [], ◌∷◌, Option, Some, None, refl, Bool, true, false, ap, map, filter, arith, length, ◌+◌, ◌≤◌}
 use Rattle.std.proofs.Common.{◌++◌, subst}
-use Rattle.std.specs.Prelude.{◌&&◌, ◌||◌, is_some, if◌then◌else◌, not, find}
+use Rattle.std.specs.Prelude.{◌&&◌, is_some, not, find}
 use Rattle.promises.specs.Replies.{ClosesAsKept}
 use Rattle.promises.specs.Ends.{TellsTheEnd}
 use Rattle.promises.proofs.Participants.{off}
-use Rattle.promises.proofs.Words.{range_with_len, Mark, Clean, Image, AreLater, AreInTime, content, point_in, sets_of, is_among, Op, Read, ImageDigest}
+use Rattle.promises.proofs.Words.{range_with_len, Mark, Clean, Image, AreLater, AreInTime, content, point_in, sets_of, is_among, Op, ImageDigest}
 use Rattle.promises.proofs.Words.{ImageBlock, Query, Plan, blocks_of, Line, BlockOf, BlocksOf, State, SetRow, Kept, history_of, is_kept_set, kept, kept_of}
 use Rattle.promises.proofs.Words.{kept_image, image_block, image_blocks, line, Act, happens, reply_is, reply, state, ReadsAsAtTheCut, reads_as_at_cut}
 use Rattle.promises.proofs.Words.{block_now, images_in_time, IsBelow, AreRising, TellsTheCut, RepliesTell, Fault, Faulted, number_is, Write, copies_of, copy_of}
@@ -29,39 +29,15 @@ map_along f g e ns = grind arith
 
 below_listed : (test : Image → Bool) (i : Image) (images : List Image) → AreLater i images → IsBelow i.set (sets_of (filter test images))
 below_listed test i [] h = tt
-below_listed test i (j ∷ images) h = by_test (test j) (below_listed test i images h.2) where
-  by_test : (b : Bool) → IsBelow i.set (sets_of (filter test images)) → IsBelow i.set (sets_of (if b then j ∷ filter test images else filter test images))
-  by_test true ih = (h.0, ih)
-  by_test false ih = ih
+below_listed test i (j ∷ images) h = grind (arith, below_listed test i images h.2)
 
 rising_listed : (test : Image → Bool) (most : ℕ) (images : List Image) → AreInTime most images → AreRising (sets_of (filter test images))
 rising_listed test most [] h = tt
-rising_listed test most (i ∷ images) h = by_test (test i) (below_listed test i images h.1) (rising_listed test most images h.2) where
-  by_test : (b : Bool) → IsBelow i.set (sets_of (filter test images)) → AreRising (sets_of (filter test images)) → AreRising (sets_of (if b then i ∷ filter test images else filter test images))
-  by_test true below ih = (below, ih)
-  by_test false below ih = ih
+rising_listed test most (i ∷ images) h = grind (arith, below_listed, rising_listed test most images h.2)
 
 listed : (st : State) (n : ℕ) (images : List Image) → is_among n (sets_of (filter (λ i. is_kept_set st i.set) images)) ≡ (is_kept_set st n && is_some (point_in n images))
 listed st n [] = off (is_kept_set st n)
-listed st n (i ∷ images) = by_head (i.set == n) (is_kept_set st i.set) (is_kept_set st n) refl refl refl (listed st n images) where
-  among : (c : Bool) (rest : List ℕ) → (i.set == n) ≡ c → is_among n (i.set ∷ rest) ≡ (c || is_among n rest)
-  among c rest e = ap (λ x. x || is_among n rest) e
-
-  point : (c : Bool) → (i.set == n) ≡ c → is_some (point_in n (i ∷ images)) ≡ (c || is_some (point_in n images))
-  point true e = ap (λ x. is_some (if x then Some i.point else point_in n images)) e
-  point false e = ap (λ x. is_some (if x then Some i.point else point_in n images)) e
-
-  by_head : (c d b : Bool) → (i.set == n) ≡ c → is_kept_set st i.set ≡ d → is_kept_set st n ≡ b
-      → is_among n (sets_of (filter (λ j. is_kept_set st j.set) images)) ≡ (is_kept_set st n && is_some (point_in n images))
-      → is_among n (sets_of (if is_kept_set st i.set then i ∷ filter (λ j. is_kept_set st j.set) images else filter (λ j. is_kept_set st j.set) images))
-      ≡ (is_kept_set st n && is_some (point_in n (i ∷ images)))
-  by_head true true b e f g ih =
-      let kept_too : is_kept_set st n ≡ true = ap (is_kept_set st) (sym (number_is i.set n e)) ∙ f in
-      rw f (rw kept_too (among true (sets_of (filter (λ j. is_kept_set st j.set) images)) e ∙ sym (point true e)))
-  by_head true false b e f g ih = let not_kept : is_kept_set st n ≡ false = ap (is_kept_set st) (sym (number_is i.set n e)) ∙ f in rw f (ih ∙ rw not_kept refl)
-  by_head false true b e f g ih =
-      rw f (among false (sets_of (filter (λ j. is_kept_set st j.set) images)) e ∙ ih ∙ ap (λ x. is_kept_set st n && x) (sym (point false e)))
-  by_head false false b e f g ih = rw f (ih ∙ ap (λ x. is_kept_set st n && x) (sym (point false e)))
+listed st n (i ∷ images) = grind (arith, number_is, listed st n images)
 
 -- ## every reply
 
@@ -102,24 +78,7 @@ module _ (s : Plan) (so_far : List Act) (act : Act) where
   image_failed lane n v o e f g h = grind (arith, told)
 
 pub replies_tell : (s : Plan) (so_far : List Act) (act : Act) → RepliesTell s so_far act
-replies_tell s so_far act =
-    let st = state s so_far in
-    record {
-      block = λ lane v b e f. told s so_far act lane (Read v b) Clean e f;
-      image_block = λ lane n v b e f g. block_told s so_far act lane n v b (kept_image st n v) refl g e f;
-      image = λ lane n v e f g. image_told s so_far act lane n v (kept_image st n v) refl g e f;
-      failed = λ lane v b e f. told s so_far act lane (Read v b) Fault e f;
-      failed_block = λ lane n v b e f g. block_failed s so_far act lane n v b (kept_image st n v) refl g e f;
-      failed_image = λ lane n v e f g. image_failed s so_far act lane n v (kept_image st n v) refl g e f;
-      no_block = λ lane n v b e f. told s so_far act lane (ImageBlock n v b) act.mark e refl ∙ ap (λ o. (image_block v b o act.mark st).0) f;
-      no_image = λ lane n v e f. told s so_far act lane (ImageDigest n v) act.mark e refl ∙ ap (λ o. (image_blocks s v o act.mark st).0) f;
-      sets = λ lane v e. record {
-        sets = sets_of (kept st (history_of st v));
-        tells = told s so_far act lane (Query v) act.mark e refl;
-        exactly = λ n. listed st n (history_of st v).images;
-        in_order = rising_listed (λ i. is_kept_set st i.set) _ (history_of st v).images (images_in_time s so_far v);
-      };
-    }
+replies_tell s so_far act = grind (arith, told, block_told, image_told, block_failed, image_failed, listed, rising_listed, images_in_time)
 
 -- ## The slots and the images of the closing lines.
 
@@ -145,36 +104,17 @@ is_over n q = (q.number == n) && not (is_running q.result)
 -- the row of the set is over
 row_over : (n : ℕ) (q : SetRow) (rows : List SetRow) → find (λ (r : SetRow). r.number == n) rows ≡ Some q → is_running q.result ≡ false → find (is_over n) rows ≡ Some q
 row_over n q [] e f = absurd cc
-row_over n q (r ∷ rows) e f = by_head (r.number == n) e (λ g. row_over n q rows g f) where
-  by_head : (b : Bool) → (if b then Some r else find (λ (x : SetRow). x.number == n) rows) ≡ Some q → (find (λ (x : SetRow). x.number == n) rows ≡ Some q → find (is_over n) rows ≡ Some q)
-      → (if b && not (is_running r.result) then Some r else find (is_over n) rows) ≡ Some q
-  by_head true e ih =
-      let same = some_same r q e in
-      ap (λ c. if not c then Some r else find (is_over n) rows) (ap (λ (x : SetRow). is_running x.result) same ∙ f) ∙ e
-  by_head false e ih = ih e
+row_over n q (r ∷ rows) e f = grind (arith, some_same, λ (g : find (λ (r : SetRow). r.number == n) rows ≡ Some q). row_over n q rows g f)
 
 -- no row of a higher number is that of set n
 none_above : (n k : ℕ) (rows : List SetRow) → NumberedFrom k rows → n + 1 ≤ k → find (is_over n) rows ≡ None
 none_above n k [] h l = refl
-none_above n k (r ∷ rows) h l =
-    ap (λ b. if b && not (is_running r.result) then Some r else find (is_over n) rows) (other r.number n k h.0 l) ∙ none_above n (k + 1) rows h.1 (omega arith)
-  where
-    other : (m n k : ℕ) → m ≡ k → n + 1 ≤ k → (m == n) ≡ false
-    other m n k e l = grind arith
+none_above n k (r ∷ rows) h l = grind (arith, none_above n (k + 1) rows h.1 (omega arith))
 
 -- the row of the set is not over
 row_runs : (n k : ℕ) (q : SetRow) (rows : List SetRow) → NumberedFrom k rows → find (λ (r : SetRow). r.number == n) rows ≡ Some q → is_running q.result ≡ true → find (is_over n) rows ≡ None
 row_runs n k q [] h e f = absurd cc
-row_runs n k q (r ∷ rows) h e f = by_head (r.number == n) refl e (λ g. row_runs n (k + 1) q rows h.1 g f) where
-  by_head : (b : Bool) → (r.number == n) ≡ b → (if b then Some r else find (λ (x : SetRow). x.number == n) rows) ≡ Some q
-      → (find (λ (x : SetRow). x.number == n) rows ≡ Some q → find (is_over n) rows ≡ None)
-      → (if b && not (is_running r.result) then Some r else find (is_over n) rows) ≡ None
-  by_head true g e ih =
-      let same = some_same r q e in
-      let is : r.number ≡ n = number_is r.number n g in
-      let first = h.0 in
-      ap (λ c. if not c then Some r else find (is_over n) rows) (ap (λ (x : SetRow). is_running x.result) same ∙ f) ∙ none_above n (k + 1) rows h.1 (omega arith)
-  by_head false g e ih = ih e
+row_runs n k q (r ∷ rows) h e f = grind (arith, some_same, number_is, none_above, λ (g : find (λ (r : SetRow). r.number == n) rows ≡ Some q). row_runs n (k + 1) q rows h.1 g f)
 
 pub tells_the_end : (s : Plan) (so_far : List Act) (act : Act) → TellsTheEnd s so_far act
 tells_the_end s so_far act =

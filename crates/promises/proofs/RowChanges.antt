@@ -2,16 +2,15 @@
 use Rattle.std.proofs.Common.{◌≡◌, ◌∙◌, ℕ, ◌+◌, List, [], ◌∷◌, Option, Some, None, refl, Bool, true, false, ap, sym, subst, inl, inr, map, arith}
 use Rattle.std.specs.Prelude.{◌&&◌, is_some, find, ◌==◌, if◌then◌else◌}
 use Rattle.promises.proofs.Words.{SetOutcome, VssResult, InsufficientStorage, AsyncCancelled, AsyncPending, WriterState, Order, Said, WriterRow, is_failed}
-use Rattle.promises.proofs.Words.{after_ok, failed_at, stable_again, row_after, row_aborted, row_ended, row_gathered, one_more, Mark, Clean, Fault, FaultAfter}
-use Rattle.promises.proofs.Words.{Write, said_of, Group, Orders, Gather, Prepare, Snapshot, Complete, Open, open_group, open_order, next_volume, order_of}
-use Rattle.promises.proofs.Words.{order_if, order_now, is_among, is_asked, is_orders, is_working, waits_now, Running as RunningLimit, spent_of, Session, Op}
-use Rattle.promises.proofs.Words.{Target, target_of, Plan, Event, State, SetRow, Kept, is_running, in_progress, left_now, row_of, row_settled, followed, runs}
-use Rattle.promises.proofs.Words.{failed_in, failed, Reply, Fine, Coded, Deleted, Idled, line_ticks, Act, order_of_writer, answer_reply, step_reply, idle_now}
-use Rattle.promises.proofs.Words.{after, state, is_refused, is_late, is_fault, is_flush_step, loses_own_image, gives_cause, NumberedFrom, has_failed, IsFailed}
-use Rattle.promises.proofs.Words.{outcome_is_running, orderly, running_found, row_running, row_fails, set_fails, row_said, at_rest, row_told, row_asked}
-use Rattle.promises.proofs.Words.{row_over, state_at_ok, state_at_failure, speaks, said_by, asks_anew, ends_session, row_by, row_next, RowsChange, Covers}
-use Rattle.promises.proofs.Words.{ChangesNothing, told_covered, and_parts, false_from_ne_true, Lost, Course, posted, released, row_if, limits_now, lost_at}
-use Rattle.promises.proofs.Words.{is_member, is_decisive, answered as course_answered, stepped as course_stepped, timed as course_timed, Line, Provider, Idle}
+use Rattle.promises.proofs.Words.{stable_again, row_after, row_aborted, row_ended, row_gathered, one_more, Mark, Clean, Fault, FaultAfter, Write, said_of}
+use Rattle.promises.proofs.Words.{Group, Gather, Prepare, Snapshot, Complete, Open, open_group, open_order, next_volume, order_of, order_if, order_now}
+use Rattle.promises.proofs.Words.{is_among, is_orders, is_working, waits_now, Running as RunningLimit, spent_of, Session, Op, Plan, Event, State, SetRow, Kept}
+use Rattle.promises.proofs.Words.{is_running, in_progress, left_now, row_of, row_settled, followed, runs, failed_in, failed, Reply, Fine, Coded, Deleted, Idled}
+use Rattle.promises.proofs.Words.{line_ticks, Act, order_of_writer, answer_reply, step_reply, idle_now, after, state, is_refused, is_late, is_fault}
+use Rattle.promises.proofs.Words.{loses_own_image, gives_cause, NumberedFrom, has_failed, IsFailed, outcome_is_running, orderly, running_found, row_running}
+use Rattle.promises.proofs.Words.{row_fails, set_fails, row_said, at_rest, row_told, row_asked, row_over, speaks, said_by, asks_anew, ends_session, row_by}
+use Rattle.promises.proofs.Words.{row_next, RowsChange, Covers, told_covered, and_parts, false_from_ne_true, Lost, Course, posted, released, row_if, limits_now}
+use Rattle.promises.proofs.Words.{lost_at, is_member, answered as course_answered, stepped as course_stepped, timed as course_timed, Line, Provider, Idle}
 use Rattle.promises.proofs.Words.{set_loses_image, Replied, cleared, with_room_if, put, write, reverted_as, disable, start_set, closed, end_session, step_made}
 use Rattle.promises.proofs.Words.{stepped_as, ticked, later, is_flush, is_failed_step, number_is, or-false, true_not_false}
 use Rattle.vss_names.specs.declared.set_outcome.SetOutcome.TheVariants.{Running as RunningSet}
@@ -21,7 +20,7 @@ use Rattle.scenario.specs.declared.op.Op.TheVariants as op
 use Rattle.vss_model.specs.declared.event.Event.TheVariants.{Answer as AnswerEvent}
 use Rattle.vss_model.proofs.StateForm.{answered, stepped}
 use Rattle.promises.proofs.CourseRows.{Becomes, as_it_is, and_told, same_rows, rows_map_are, rise_failed, stay_begun, say_to, refuses, comes_answered, Comes}
-use Rattle.promises.proofs.CourseRows.{stay_stepped, rise_stepped, lost_by, PassesOrFails, over_timed, IsBusy, busy_order, busy_step, busy_set, course_followed}
+use Rattle.promises.proofs.CourseRows.{stay_stepped, rise_stepped, lost_by, PassesOrFails, over_timed, IsBusy, busy_step, busy_set, course_followed}
 use Rattle.promises.proofs.Failing.{fails_for_cause, same_consent, same_veto, refused_fails, falls, followed_sets, failed_fails, write_fails}
 use Rattle.promises.proofs.Limits.{timed_fails}
 use Rattle.promises.proofs.Times.{late_is_due}
@@ -136,9 +135,6 @@ module _ (s : Plan) (so_far : List Act) where
   course_put : (v : ℕ) (w : Write) (mark : Mark) (x : State) → (put v w mark x).course ≡ x.course
   course_put v w mark x = grind arith
 
-  sets_put : (v : ℕ) (w : Write) (mark : Mark) (x : State) → (put v w mark x).sets ≡ x.sets
-  sets_put v w mark x = grind arith
-
   write_falls : (v : ℕ) (w : Write) (mark : Mark) (r : SetRow) (e : in_progress st ≡ Some r) (num : NumberedFrom 1 st.sets)
       (run : st.course.outcome ≡ RunningSet) → loses_own_image s st v w.block ≡ true
       → IsFailed (put v w mark (with_room_if (loses_own_image s st v w.block) (cleared s v w.block st))) r.number
@@ -147,9 +143,7 @@ module _ (s : Plan) (so_far : List Act) where
 
   roomy_rows : (v : ℕ) (w : Write) (mark : Mark) (b : Bool) (o : Option SetRow) → in_progress st ≡ o → loses_own_image s st v w.block ≡ b
       → Told as_it_is (put v w mark (with_room_if b (cleared s v w.block st)))
-  roomy_rows v w mark false o e f =
-      same_sets (put v w mark (cleared s v w.block st)) (sets_put v w mark (cleared s v w.block st))
-      (subst (λ (c : Course). Becomes as_it_is rows c.rows) (sym (course_put v w mark (cleared s v w.block st))) (same_rows rows))
+  roomy_rows v w mark false o e f = grind (arith, same_sets, course_put, same_rows)
   roomy_rows v w mark true None e f = absurd (true_not_false (loses_own_image s st v w.block) f (ap (λ o. set_loses_image o st.volumes (cleared s v w.block st).volumes) e))
   roomy_rows v w mark true (Some r) e f =
       let num = (orderly s so_far).numbered in
@@ -170,13 +164,6 @@ module _ (s : Plan) (so_far : List Act) where
   refused_is : (o : Option Order) (answer : Answer) → is_refused o answer ≡ refuses o (said_of answer)
   refused_is o answer = grind (arith, same_consent, same_veto)
 
-  order_busy : (o : Option Order) (said : Said) → refuses o said ≡ true → ((p : Order) → o ≡ Some p → is_decisive p ≡ true → IsBusy st.course.agenda) → IsBusy st.course.agenda
-  order_busy o said e f = grind (arith, and_parts)
-
-  now_open : (b : Bool) (x : Option Order) (o : Order) → order_if b x ≡ Some o → x ≡ Some o
-  now_open true x o e = e
-  now_open false x o e = absurd cc
-
   abbrev says_answer : ℕ → Answer → Says
   says_answer w answer = say_to (order_of_writer st w) (said_of answer) (w ∷ [])
 
@@ -189,7 +176,7 @@ module _ (s : Plan) (so_far : List Act) where
         → Told (says_answer w answer) (followed (runs st) (course_answered w (said_of answer) st.clock st.course) st)
     by_refusal true e h =
         with_set (in_progress st) (Told (says_answer w answer) (followed (runs st) (course_answered w (said_of answer) st.clock st.course) st))
-        (is_busy (order_busy (order_of_writer st w) (said_of answer) e (λ p f d. busy_order st.course.agenda p (now_open (is_asked w (left_now st)) (order_now (left_now st)) p f) d)))
+        (is_busy (grind (arith, and_parts)))
         (λ r f. loud_course (says_answer w answer) (runs st) (course_answered w (said_of answer) st.clock st.course) st r f refl refl
         (refused_fails w answer st.clock st.course (refused_is (order_of_writer st w) answer ∙ e))
         (subst (λ c. Comes (says_answer w answer) c st.course (course_answered w (said_of answer) st.clock st.course)) e h))
@@ -199,15 +186,11 @@ module _ (s : Plan) (so_far : List Act) where
 
   -- ## steps
 
-  flushes_alike : (g : Option Group) → is_flush_step g ≡ is_flush g
-  flushes_alike None = refl
-  flushes_alike _ = refl
-
   step_fails : (b : Bool) (mark : Mark) → (b && is_fault mark) ≡ is_failed_step b mark
   step_fails b mark = grind arith
 
   cause_of_step : (mark : Mark) → gives_cause s st Provider mark ≡ is_failed_step (is_flush (open_group (left_now st))) mark
-  cause_of_step mark = ap (λ b. b && is_fault mark) (flushes_alike (open_group (left_now st))) ∙ step_fails (is_flush (open_group (left_now st))) mark
+  cause_of_step mark = ap (λ b. b && is_fault mark) (grind arith) ∙ step_fails (is_flush (open_group (left_now st))) mark
 
   outcome_stepped : has_failed (course_stepped false st.clock st.course).outcome ≡ true
   unfolding posted course_failed
@@ -230,15 +213,7 @@ module _ (s : Plan) (so_far : List Act) where
 
   time_passes : (event : Event) (mark : Mark) (n : ℕ) (x : State) → gives_cause s st event mark ≡ is_late st n → after s st (record { event = event; mark = mark }) ≡ x
       → (has_failed st.course.outcome ≡ false → has_failed (course_timed (st.clock + n) st.course).outcome ≡ false) → falls_in x ≡ false
-  time_passes event mark n x cause i calm =
-      false_from_ne_true (falls_in x) (λ e.
-      with_set (in_progress st) ⊥ (set_there (in_progress st) e) (λ r f.
-      true_not_false (has_failed (course_timed (st.clock + n) st.course).outcome)
-      (timed_fails (st.clock + n) st.course (late_is_due s so_far (st.clock + n) (sym cause ∙ cause_of event mark x (in_progress st) refl i e)))
-      (calm (ap has_failed (outcome_is_running s so_far r f))))) where
-        set_there : (o : Option SetRow) → set_fails o x ≡ true → is_some o ≡ true
-        set_there None e = absurd cc
-        set_there (Some r) e = refl
+  time_passes event mark n x cause i calm = grind (arith, false_from_ne_true, with_set, true_not_false, timed_fails, late_is_due, cause_of, outcome_is_running)
 
   -- those are lost that a limit loses which is spent then
   abbrev spends : ℕ → Says
@@ -270,17 +245,8 @@ module _ (s : Plan) (so_far : List Act) where
   told_by : (b : Bool) (r : WriterRow) → row_if b row_aborted r ≡ row_by b row_told r
   told_by b r = grind (arith, told_is)
 
-  at_ok : (o : Order) → after_ok o ≡ state_at_ok o
-  at_ok o = grind arith
-
-  at_failure : (o : Order) → failed_at o ≡ state_at_failure o
-  at_failure o = grind arith
-
   said_is : (o : Order) (said : Said) (r : WriterRow) → row_after o said r ≡ row_said (Some o) said r
-  said_is o said r = grind (arith, at_ok, at_failure)
-
-  said_if : (b : Bool) (o : Order) (said : Said) (r : WriterRow) → row_if b (row_after o said) r ≡ row_by b (row_said (Some o) said) r
-  said_if b o said r = grind (arith, said_is)
+  said_is o said r = grind arith
 
   nothing_said : (b : Bool) (said : Said) (r : WriterRow) → r ≡ row_by b (row_said None said) r
   nothing_said b said r = grind arith
@@ -291,27 +257,22 @@ module _ (s : Plan) (so_far : List Act) where
   lost_said None w r = refl
   lost_said (Some l) w r = by_list (left_now st) where
     by_test : (p : Order) (b : Bool) → row_if b (row_after p Lost) r ≡ row_by b (row_said (order_if b (Some p)) Lost) r
-    by_test p true = said_is p Lost r
-    by_test p false = refl
+    by_test p b = grind (arith, said_is)
 
     by_group : (g : Group) (ws : List ℕ) → say_to (order_of g) Lost ws w r
         ≡ row_by (is_among w (lost_at (Some l) (order_of g) ws)) (row_said (order_if (is_orders g && is_among w ws) (order_of g)) Lost) r
-    by_group (Orders p) ws = by_test p (is_among w ws)
-    by_group _ ws = refl
+    by_group g ws = grind (arith, by_test)
 
     by_list : (os : List Open) → say_to (order_now os) Lost (waits_now os) w r ≡ row_by (is_among w (lost_at (Some l) (order_now os) (waits_now os))) (row_said (open_order os w) Lost) r
-    by_list [] = refl
-    by_list (o ∷ os) = by_group o.place.group o.waits
+    by_list os = grind (arith, by_group)
 
   answer_said : (u w : ℕ) (said : Said) (r : WriterRow) → say_to (order_of_writer st u) said (u ∷ []) w r ≡ row_by (u == w) (row_said (order_of_writer st w) said) r
   answer_said u w said r = own (order_of_writer st u) (u == w) (or-false (u == w)) ∙ same_writer (u == w) refl where
     own : (o : Option Order) (b : Bool) → is_among w (u ∷ []) ≡ b → say_to o said (u ∷ []) w r ≡ row_by b (row_said o said) r
-    own None b e = nothing_said b said r
-    own (Some p) b e = ap (λ c. row_if c (row_after p said) r) e ∙ said_if b p said r
+    own o b e = grind (arith, nothing_said, said_is)
 
     same_writer : (b : Bool) → (u == w) ≡ b → row_by b (row_said (order_of_writer st u) said) r ≡ row_by b (row_said (order_of_writer st w) said) r
-    same_writer true e = ap (λ x. row_said (order_of_writer st x) said r) (number_is u w e)
-    same_writer false e = refl
+    same_writer b e = grind (arith, number_is)
 
   -- ## every act
 
@@ -325,30 +286,13 @@ module _ (s : Plan) (so_far : List Act) where
       → ends_session event told ≡ false → Told say x → Becomes (row_next st event told x) rows x.course.rows
   in_words say event told x same ends h w r f = grind (arith, told_by)
 
-  -- a line that moves no clock, and asks nothing anew
-  quiet_line : (lane : ℕ) (o : Op) (told : Reply) (w : ℕ) (r : WriterRow) → line_ticks o ≡ None → asks_anew (Line lane o) told ≡ false → r ≡ says_in (Line lane o) told w r
-  quiet_line lane o told w r e f = grind arith
-
   by_line : (lane : ℕ) (o : Op) (told : Reply) (x : State) → line_ticks o ≡ None → asks_anew (Line lane o) told ≡ false
       → ends_session (Line lane o) told ≡ false → Told as_it_is x → Becomes (row_next st (Line lane o) told x) rows x.course.rows
-  by_line lane o told x e f g h = in_words as_it_is (Line lane o) told x (λ w r. quiet_line lane o told w r e f) g h
+  by_line lane o told x e f g h = in_words as_it_is (Line lane o) told x (λ w r. grind arith) g h
 
   same_line : (lane : ℕ) (o : Op) (told : Reply) (x : State) → line_ticks o ≡ None → asks_anew (Line lane o) told ≡ false
       → ends_session (Line lane o) told ≡ false → x.sets ≡ st.sets → x.course ≡ st.course → Becomes (row_next st (Line lane o) told x) rows x.course.rows
   same_line lane o told x e f g i j = grind (arith, by_line, same_sets, same_rows)
-
-  -- a refused line
-  asks_none : (lane : ℕ) (o : Op) (told : Reply) → ChangesNothing o told → asks_anew (Line lane o) told ≡ false
-  asks_none lane o told g = grind arith
-
-  ends_none : (lane : ℕ) (o : Op) (told : Reply) → ChangesNothing o told → ends_session (Line lane o) told ≡ false
-  ends_none lane o told g = grind arith
-
-  write_line : (lane : ℕ) (o : Op) (t : Target) (told : Reply) → target_of o ≡ Some t → (line_ticks o ≡ None) × (asks_anew (Line lane o) told ≡ false) × (ends_session (Line lane o) told ≡ false)
-  write_line lane o t told e = grind arith
-
-  on_write : (lane : ℕ) (o : Op) (t : Target) (v : ℕ) (w : Write) (mark : Mark) → target_of o ≡ Some t → Next (Line lane o) mark (write s v w mark st)
-  on_write lane o t v w mark e i = grind (arith, write_line, by_line, write_rows)
 
   on_revert : (lane n v : ℕ) (k : Kept) (mark : Mark) → Next (Line lane (op.Revert n v)) mark (reverted_as s v k mark st)
   on_revert lane n v k Clean i = same_line lane (op.Revert n v) (reverted_as s v k Clean st).0 _ refl refl refl refl refl
@@ -365,8 +309,8 @@ module _ (s : Plan) (so_far : List Act) where
 
   changes : Covers Next s st
   changes = record {
-    stays = λ lane o mark told e f i. same_line lane o told st e (asks_none lane o told f) (ends_none lane o told f) refl refl;
-    writes = λ lane o v w mark e f i. on_write lane o _ v w mark e i;
+    stays = λ lane o mark told e f i. same_line lane o told st e (grind arith) (grind arith) refl refl;
+    writes = λ lane o v w mark e f i. grind (arith, by_line, write_rows);
     reverts = λ lane n v k mark e f i. on_revert lane n v k mark i;
     deletes_set = λ lane n c mark e i. same_line lane (op.DeleteSet n) (Deleted c) _ refl refl refl refl refl;
     deletes_image = λ lane n v k mark e i. same_line lane (op.DeleteImage n v) (Deleted 1) _ refl refl refl refl refl;

@@ -1,11 +1,11 @@
 -- The rows of sets: no volume is twice in one, no act loses one, and one that is over stays as it is.
-use Rattle.std.proofs.Common.{◌≡◌, ◌∙◌, ℕ, ◌+◌, ◌==◌, ◌<◌, List, [], ◌∷◌, ◌++◌, Some, None, refl, Bool, true, false, ap, sym, subst, map, find, arith, ◌≤◌}
-use Rattle.std.specs.Prelude.{◌||◌, not, if◌then◌else◌}
+use Rattle.std.proofs.Common.{◌≡◌, ◌∙◌, ℕ, ◌+◌, ◌==◌, ◌<◌, List, [], ◌∷◌, ◌++◌, Some, refl, Bool, true, false, ap, sym, subst, map, find, arith}
+use Rattle.std.specs.Prelude.{◌||◌}
 use Rattle.vss_model.specs.Changes.{Settles}
 use Rattle.promises.proofs.Members.{still_less}
-use Rattle.promises.proofs.Words.{list_any-append, SetOutcome, VssResult, Mark, is_among, are_distinct, Plan, Event, State, SetRow, in_progress, row_changed}
+use Rattle.promises.proofs.Words.{list_any-append, SetOutcome, Mark, is_among, are_distinct, Plan, Event, State, SetRow, in_progress, row_changed}
 use Rattle.promises.proofs.Words.{NumberedFrom, Act, after, state, orderly, row_running, VolumesAreDistinct, some_same, other_way, and_from, and_parts}
-use Rattle.promises.proofs.Words.{or_parts, or-false, row_settled, with_volume, add_refusal, row_cut, Change, StartsSet, AddsVolume, IsCutAt, apply, IsAdd}
+use Rattle.promises.proofs.Words.{or_parts, or-false, row_settled, with_volume, row_cut, Change, StartsSet, AddsVolume, IsCutAt, apply, IsAdd}
 use Rattle.promises.proofs.Words.{Comes, by_changes, volumes_cut, by_acts, or_left, append_assoc, is_running, state-append, found_above, IsLaterRow}
 use Rattle.promises.proofs.Words.{HasLaterRow, KeepsRows, append_nothing, with_cut, later, row_number}
 
@@ -25,11 +25,7 @@ distinct_append (q ∷ rows) r h e = (h.0, distinct_append rows r h.1 e)
 
 distinct_found : (n : ℕ) (rows : List SetRow) (r : SetRow) → AllDistinct rows → find (λ (q : SetRow). q.number == n) rows ≡ Some r → are_distinct r.volumes ≡ true
 distinct_found n [] r h e = absurd cc
-distinct_found n (q ∷ rows) r h e = by_head (q.number == n) e (distinct_found n rows r h.1) where
-  by_head : (b : Bool) → (if b then Some q else find (λ (x : SetRow). x.number == n) rows) ≡ Some r
-      → (find (λ (x : SetRow). x.number == n) rows ≡ Some r → are_distinct r.volumes ≡ true) → are_distinct r.volumes ≡ true
-  by_head true f ih = subst (λ (x : SetRow). are_distinct x.volumes ≡ true) (some_same q r f) h.0
-  by_head false f ih = ih f
+distinct_found n (q ∷ rows) r h e = grind (arith, some_same, distinct_found n rows r h.1)
 
 -- ## a volume is added
 
@@ -38,59 +34,28 @@ among_other x v xs e = list_any-append (λ (y : ℕ). y == x) xs (v ∷ []) ∙ 
 
 distinct_more : (v : ℕ) (xs : List ℕ) → is_among v xs ≡ false → are_distinct xs ≡ true → are_distinct (xs ++ v ∷ []) ≡ true
 distinct_more v [] e f = refl
-distinct_more v (x ∷ xs) e f =
-    let none = or_parts (x == v) (is_among v xs) e in
-    let parts = and_parts (not (is_among x xs)) (are_distinct xs) f in
-    and_from (not (is_among x (xs ++ v ∷ []))) (are_distinct (xs ++ v ∷ [])) (ap not (among_other x v xs none.0) ∙ parts.0) (distinct_more v xs none.1 parts.1)
-
-changed_volumes : (b : Bool) (f : SetRow → SetRow) (r : SetRow) → b ≡ false → (if b then f r else r).volumes ≡ r.volumes
-changed_volumes b f r e = grind arith
+distinct_more v (x ∷ xs) e f = grind (arith, or_parts, and_parts, and_from, among_other, distinct_more v xs (grind arith) (grind arith))
 
 none_changed : (k n : ℕ) (f : SetRow → SetRow) (rows : List SetRow) → NumberedFrom k rows → n < k → AllDistinct rows → AllDistinct (map (row_changed n f) rows)
 none_changed k n f [] num l h = tt
-none_changed k n f (r ∷ rows) num l h =
-    (ap are_distinct (changed_volumes (r.number == n) f r (differs r.number k n num.0 l)) ∙ h.0, none_changed (k + 1) n f rows num.1 (still_less k n l) h.1)
-  where
-    differs : (a k n : ℕ) → a ≡ k → n < k → (a == n) ≡ false
-    differs a k n e l = grind arith
+none_changed k n f (r ∷ rows) num l h = grind (arith, still_less, none_changed (k + 1) n f rows num.1 (still_less k n l) h.1)
 
 added : (k : ℕ) (rows : List SetRow) (r : SetRow) (v : ℕ) → NumberedFrom k rows → find (λ (q : SetRow). q.number == r.number) rows ≡ Some r
     → is_among v r.volumes ≡ false → AllDistinct rows → AllDistinct (map (row_changed r.number (with_volume v)) rows)
 added k [] r v num e f h = tt
-added k (q ∷ rows) r v num e f h = by_head (q.number == r.number) refl e (added (k + 1) rows r v num.1) where
-  equal_next : (a k n : ℕ) → a ≡ k → (a == n) ≡ true → n < k + 1
-  equal_next a k n e f = grind arith
-
-  by_head : (b : Bool) → (q.number == r.number) ≡ b → (if b then Some q else find (λ (x : SetRow). x.number == r.number) rows) ≡ Some r
-      → (find (λ (x : SetRow). x.number == r.number) rows ≡ Some r → is_among v r.volumes ≡ false → AllDistinct rows → AllDistinct (map (row_changed r.number (with_volume v)) rows))
-      → (are_distinct (if b then with_volume v q else q).volumes ≡ true) × AllDistinct (map (row_changed r.number (with_volume v)) rows)
-  by_head true g e ih = (
-    distinct_more v q.volumes (subst (λ (x : SetRow). is_among v x.volumes ≡ false) (sym (some_same q r e)) f) h.0,
-    none_changed (k + 1) r.number (with_volume v) rows num.1 (equal_next q.number k r.number num.0 g) h.1,
-  )
-  by_head false g e ih = (h.0, ih e f h.1)
-
-not_in_set : (in_set many full : Bool) (x y z : VssResult) → (if in_set then Some x else if many then Some y else if full then Some z else None) ≡ None → in_set ≡ false
-not_in_set in_set many full x y z e = grind arith
+added k (q ∷ rows) r v num e f h = grind (arith, distinct_more, some_same, none_changed, added (k + 1) rows r v num.1)
 
 -- ## every act
 
-settled_volumes : (p : SetOutcome) (r : SetRow) → (row_settled p r).volumes ≡ r.volumes
-settled_volumes p r = grind arith
-
 module _ (s : Plan) (st : State) (num : NumberedFrom 1 st.sets) (h : AllDistinct st.sets) where
   added_volume : (x : State) (n v : ℕ) → IsAdd st x n v → AllDistinct (map (row_changed n (with_volume v)) x.sets)
-  added_volume x n v i =
-      subst (λ (y : State). AllDistinct (map (row_changed n (with_volume v)) y.sets)) (sym i.first)
-      (subst (λ k. AllDistinct (map (row_changed k (with_volume v)) st.sets)) (sym i.number) (on_add v i.row i.found i.allowed)) where
-        on_add : (v : ℕ) (r : SetRow) → in_progress st ≡ Some r → add_refusal v r st ≡ None → AllDistinct (map (row_changed r.number (with_volume v)) st.sets)
-        on_add v r e f = grind (arith, added, row_running, not_in_set)
+  added_volume x n v i = grind (arith, added, row_running)
 
   stays_distinct : (e : Event) (m : Mark) (c : Change) (x : State) → Comes s e m st x c → AllDistinct x.sets → AllDistinct (apply x c).sets
   stays_distinct e m (StartsSet r) x i d = distinct_append x.sets r d (ap (λ (q : SetRow). are_distinct q.volumes) i.row)
   stays_distinct e m (AddsVolume n v) x i d = added_volume x n v i
   stays_distinct e m (IsCutAt n now) x i d = distinct_map (row_cut n now) (volumes_cut n now) x.sets d
-  stays_distinct e m (Settles o) x i d = distinct_map (row_settled o) (settled_volumes o) x.sets d
+  stays_distinct e m (Settles o) x i d = distinct_map (row_settled o) (grind arith) x.sets d
   stays_distinct e m _ x i d = d
 
   pub distinct_after : (act : Act) → AllDistinct (after s st act).sets
@@ -109,12 +74,6 @@ same_row r = record { number = refl; context = refl; volumes = λ v e. e; over =
 
 pub later_again : (r q p : SetRow) → IsLaterRow r q → IsLaterRow q p → IsLaterRow r p
 later_again r q p h k = grind arith
-
-settled_row : (p : SetOutcome) (r : SetRow) → IsLaterRow r (row_settled p r)
-settled_row p r = grind arith
-
-more_volumes : (v : ℕ) (r : SetRow) → is_running r.result ≡ true → IsLaterRow r (with_volume v r)
-more_volumes v r e = grind (arith, list_any-append, or_left)
 
 row_with_cut : (now : ℕ) (r : SetRow) → is_running r.result ≡ true → IsLaterRow r (with_cut now r)
 row_with_cut now r e = record { number = refl; context = refl; volumes = λ v f. f; over = λ f. absurd cc }
@@ -139,7 +98,7 @@ go_on_again (r ∷ rs) (q ∷ qs) (p ∷ ps) h k = (later_again r q p h.0 k.0, g
 
 go_on_settled : (p : SetOutcome) (rows : List SetRow) → GoOn rows (map (row_settled p) rows)
 go_on_settled p [] = tt
-go_on_settled p (r ∷ rows) = (settled_row p r, go_on_settled p rows)
+go_on_settled p (r ∷ rows) = ((grind arith), go_on_settled p rows)
 
 go_on_more : (rows : List SetRow) (r : SetRow) → GoOn rows (rows ++ r ∷ [])
 go_on_more [] r = tt
@@ -149,64 +108,29 @@ pub go_on_found : (n : ℕ) (rs qs : List SetRow) (r : SetRow) (X : Type 0) → 
     → ((q : SetRow) → find (λ (x : SetRow). x.number == n) qs ≡ Some q → IsLaterRow r q → X) → X
 go_on_found n [] qs r X h e f = absurd cc
 go_on_found n (x ∷ rs) [] r X h e f = absurd h
-go_on_found n (x ∷ rs) (y ∷ qs) r X h e f = by_head (x.number == n) (y.number == n) (ap (λ k. k == n) h.0.number) e f (go_on_found n rs qs r X h.1) where
-  by_head : (b c : Bool) → c ≡ b → (if b then Some x else find (λ (z : SetRow). z.number == n) rs) ≡ Some r
-      → ((q : SetRow) → (if c then Some y else find (λ (z : SetRow). z.number == n) qs) ≡ Some q → IsLaterRow r q → X)
-      → (find (λ (z : SetRow). z.number == n) rs ≡ Some r → ((q : SetRow) → find (λ (z : SetRow). z.number == n) qs ≡ Some q → IsLaterRow r q → X) → X) → X
-  by_head true true g e f ih = f y refl (subst (λ z. IsLaterRow z y) (some_same x r e) h.0)
-  by_head false false g e f ih = ih e f
-  by_head true false g e f ih = absurd cc
-  by_head false true g e f ih = absurd cc
+go_on_found n (x ∷ rs) (y ∷ qs) r X h e f = grind (arith, some_same, go_on_found n rs qs r X h.1)
 
 -- ## a change of the set in progress
 
 unchanged : (k n : ℕ) (f : SetRow → SetRow) (rows : List SetRow) → NumberedFrom k rows → n < k → GoOn rows (map (row_changed n f) rows)
 unchanged k n f [] num l = tt
-unchanged k n f (r ∷ rows) num l = (by_case (r.number == n) (differs r.number k n num.0 l), unchanged (k + 1) n f rows num.1 (still_less k n l)) where
-  differs : (a k n : ℕ) → a ≡ k → n < k → (a == n) ≡ false
-  differs a k n e l = grind arith
-
-  by_case : (b : Bool) → b ≡ false → IsLaterRow r (if b then f r else r)
-  by_case true e = absurd cc
-  by_case false e = same_row r
+unchanged k n f (r ∷ rows) num l = grind (arith, still_less, same_row, unchanged (k + 1) n f rows num.1 (still_less k n l))
 
 pub changed_in_progress : (k : ℕ) (f : SetRow → SetRow) (rows : List SetRow) (r : SetRow) → NumberedFrom k rows → find (λ (q : SetRow). is_running q.result) rows ≡ Some r
     → ((q : SetRow) → is_running q.result ≡ true → IsLaterRow q (f q)) → GoOn rows (map (row_changed r.number f) rows)
 changed_in_progress k f [] r num e h = tt
-changed_in_progress k f (q ∷ rows) r num e h = by_head (is_running q.result) refl e (changed_in_progress (k + 1) f rows r num.1) (found_above (k + 1) rows r num.1)
-  where
-    below_next : (a k n : ℕ) → a ≡ k → a ≡ n → n < k + 1
-    below_next a k n e f = omega (arith, e, f)
-
-    below : (a k n : ℕ) → a ≡ k → k + 1 ≤ n → (a == n) ≡ false
-    below a k n e l = grind arith
-
-    at_head : (b : Bool) → is_running q.result ≡ true → IsLaterRow q (if b then f q else q)
-    at_head true e = h q e
-    at_head false e = same_row q
-
-    left_alone : (b : Bool) → b ≡ false → IsLaterRow q (if b then f q else q)
-    left_alone true e = absurd cc
-    left_alone false e = same_row q
-
-    by_head : (b : Bool) → is_running q.result ≡ b → (if b then Some q else find (λ (x : SetRow). is_running x.result) rows) ≡ Some r
-        → (find (λ (x : SetRow). is_running x.result) rows ≡ Some r → ((x : SetRow) → is_running x.result ≡ true → IsLaterRow x (f x)) → GoOn rows (map (row_changed r.number f) rows))
-        → (find (λ (x : SetRow). is_running x.result) rows ≡ Some r → k + 1 ≤ r.number) → IsLaterRow q (row_changed r.number f q) × GoOn rows (map (row_changed r.number f) rows)
-    by_head true g e ih above =
-        (at_head (q.number == r.number) g, unchanged (k + 1) r.number f rows num.1 (below_next q.number k r.number num.0 (ap (λ (x : SetRow). x.number) (some_same q r e))))
-    by_head false g e ih above = (left_alone (q.number == r.number) (below q.number k r.number num.0 (above e)), ih e h)
+changed_in_progress k f (q ∷ rows) r num e h = grind (arith, found_above, same_row, unchanged, some_same, changed_in_progress (k + 1) f rows r num.1)
 
 -- ## every act
 
 module _ (s : Plan) (st : State) (num : NumberedFrom 1 st.sets) where
   changed : (f : SetRow → SetRow) (x : State) (n : ℕ) (r : SetRow) → x.sets ≡ st.sets → n ≡ r.number → in_progress st ≡ Some r
       → ((q : SetRow) → is_running q.result ≡ true → IsLaterRow q (f q)) → GoOn st.sets (map (row_changed n f) x.sets)
-  changed f x n r same number found later =
-      subst (λ rows. GoOn st.sets (map (row_changed n f) rows)) (sym same) (subst (λ k. GoOn st.sets (map (row_changed k f) st.sets)) (sym number) (changed_in_progress 1 f st.sets r num found later))
+  changed f x n r same number found later = grind (arith, changed_in_progress)
 
   goes_on : (e : Event) (m : Mark) (c : Change) (x : State) → Comes s e m st x c → GoOn st.sets x.sets → GoOn st.sets (apply x c).sets
   goes_on e m (StartsSet r) x i h = go_on_again st.sets x.sets _ h (go_on_more x.sets r)
-  goes_on e m (AddsVolume n v) x i h = changed (with_volume v) x n i.row (ap (λ (y : State). y.sets) i.first) i.number i.found (more_volumes v)
+  goes_on e m (AddsVolume n v) x i h = changed (with_volume v) x n i.row (ap (λ (y : State). y.sets) i.first) i.number i.found (grind (arith, list_any-append, or_left))
   goes_on e m (IsCutAt n now) x i h = changed (with_cut now) x n i.0.row (ap (λ (y : State). y.sets) i.1) i.0.number i.0.found (row_with_cut now)
   goes_on e m (Settles o) x i h = go_on_again st.sets x.sets _ h (go_on_settled o x.sets)
   goes_on e m _ x i h = h

@@ -9,7 +9,7 @@ use Rattle.promises.proofs.Words.{group_slots, Plan, slots_in, slots_of, placed,
 use Rattle.promises.proofs.Words.{kept_image, Act, enabled, idle_now, after, state, UpTo, images_up_to, kept_point, row_number, images_in_time, length-append}
 use Rattle.promises.proofs.Words.{orderly, at, as_many_change, within, SlotsSuffice, Covers, covered, after_enabled, after_not_enabled, Course, by_acts}
 use Rattle.promises.proofs.Words.{answered as course_answered, timed as course_timed, change_at, Ending, SetFails, ending, runs, concluded, followed, failed_in}
-use Rattle.promises.proofs.Words.{failed, Replied, cleared, with_room_if, put, write, reverted_as, closed, cut_set, image_made, step_made, stepped_as, ticked}
+use Rattle.promises.proofs.Words.{failed, Replied, cleared, with_room_if, put, write, reverted_as, closed, image_made, step_made, stepped_as, ticked}
 use Rattle.promises.proofs.Words.{later, going_up_to, set_loses_image, number_is, length-map}
 use Rattle.vss_model.proofs.StateForm.{answered, stepped}
 use Rattle.promises.proofs.Members.{chain, same_number}
@@ -131,14 +131,8 @@ module _ (s : Plan) (plan : IsPlan s) (st : State) (time : (v : ℕ) → AreInTi
 
       fit_put_at : (b : Bool) (x : ℕ) (o p : Option VolumeRow) → slice_get s.volumes x ≡ o → slice_get s.volumes v ≡ p
           → group_used (group_of s x) (change_at v (written w) (with_room_if b roomy).volumes) ≤ slots_of s x
-      fit_put_at b x None p e f = subst (λ ps. group_used ps (change_at v (written w) (with_room_if b roomy).volumes) ≤ slots_of s x) (sym (ap (placed_in s.volumes) e)) (none_used (slots_of s x))
-        where
-          none_used : (n : ℕ) → 0 ≤ n
-          none_used n = omega arith
-      fit_put_at b x (Some r) None e f =
-          subst (λ n. n ≤ slots_of s x) (sym (group_other (written w) v (group_of s x) (with_room_if b roomy).volumes
-          (ap (λ o. within (slice_get (placed_in s.volumes o) v)) e ∙ within_placed r.group s.volumes v ∙ ap (λ o. within (option_map (placed r.group) o)) f)))
-          (fit_room b x)
+      fit_put_at b x None p e f = grind arith
+      fit_put_at b x (Some r) None e f = grind (arith, group_other, within_placed, fit_room)
       fit_put_at b x (Some r) (Some q) e f = put_fits b (q.group == r.group) x r q e f refl
 
       fit_put : (b : Bool) (mark : Mark) → Fit (put v w mark (with_room_if b roomy)).volumes
@@ -180,12 +174,8 @@ module _ (s : Plan) (plan : IsPlan s) (st : State) (time : (v : ℕ) → AreInTi
     uses_made_in (Some r) (Some v) = uses_image r.number v st.volumes
     uses_made_in _ _ = uses_same
 
-    uses_cut : (o : Option SetRow) → UsesNoMore st.volumes (cut_set o st).volumes
-    uses_cut None = uses_same
-    uses_cut (Some r) = uses_same
-
     uses_made : (g : Option Group) (v : Option ℕ) → UsesNoMore st.volumes (step_made g v st).volumes
-    uses_made (Some Cut) v = uses_cut (in_progress st)
+    uses_made (Some Cut) v = grind (arith, uses_same)
     uses_made (Some Commit) v = uses_made_in (in_progress st) v
     uses_made _ v = uses_same
 
@@ -246,10 +236,7 @@ fit_next s plan past act h =
 none_yet : (ps : List Placed) (rows : List VolumeRow) → group_used ps (map (λ _. fresh) rows) ≡ 0
 none_yet [] rows = refl
 none_yet (p ∷ ps) [] = refl
-none_yet (p ∷ ps) (r ∷ rows) = by_group p.within (none_yet ps rows) where
-  by_group : (b : Bool) → group_used ps (map (λ _. fresh) rows) ≡ 0 → (if b then used p.blocks [] [] else 0) + group_used ps (map (λ _. fresh) rows) ≡ 0
-  by_group true e = ap (λ n. 0 + n) e
-  by_group false e = ap (λ n. 0 + n) e
+none_yet (p ∷ ps) (r ∷ rows) = grind (arith, none_yet ps rows)
 
 -- ## as many slots as copies
 
@@ -276,7 +263,4 @@ copies_are v (p ∷ ps) (h ∷ hs) = by_group p.within (copies_of_are v p.blocks
 pub slots_suffice : (s : Plan) (so_far : List Act) → SlotsSuffice s so_far
 slots_suffice s so_far plan v =
     subst (λ n. n ≤ slots_of s v) (sym (copies_are 0 (group_of s v) (state s so_far).volumes))
-    (by_acts (FitAt s) s (fit_next s plan) (λ u. none_used (group_used (group_of s u) (map (λ _. fresh) s.volumes)) (slots_of s u) (none_yet (group_of s u) s.volumes)) so_far v)
-  where
-    none_used : (m n : ℕ) → m ≡ 0 → m ≤ n
-    none_used m n e = omega arith
+    (by_acts (FitAt s) s (fit_next s plan) (λ u. grind (arith, none_yet (group_of s u) s.volumes)) so_far v)

@@ -6,8 +6,7 @@ use Rattle.promises.proofs.Words.{order_now, waits_now, next_member, next_volume
 use Rattle.promises.proofs.Words.{lost_order_if, Settles, Stops, asked_if, asked_waits, not_ok_of_ok, Deed, Spoke, Made, deeds_lost, now_if}
 use Rattle.std.proofs.Common.{◌≡◌, ◌∙◌, ℕ, List, [], ◌∷◌, ◌⊎◌, Option, Some, None, refl, Bool, true, false, ap, sym, subst, inl, inr, map, arith}
 use Rattle.std.specs.Prelude.{option_map, ◌&&◌, not}
-use Rattle.set_agenda.specs.declared.limit.Limit.TheVariants.{Hold as HoldLimit, Freeze as FreezeLimit, Answer as AnswerLimit}
-use Rattle.set_agenda.specs.Course.{Course, posted, failed as course_failed, settled, is_decisive, told, decided, answered_to}
+use Rattle.set_agenda.specs.Course.{Course, posted, failed as course_failed, settled, is_decisive, told, decided}
 use Rattle.set_agenda.specs.Course.{answered as course_answered, worked, stepped_as as course_stepped_as, stepped as course_stepped, freeze_limit, limits_now}
 use Rattle.set_agenda.specs.Course.{lost_at, lost_to, lost, fails_set, lost_decided, treated_as, treated, timed as course_timed}
 use Rattle.vss_model.proofs.CourseCalls.{head_waits, settles}
@@ -114,21 +113,14 @@ grows_decided false w o said now a c e f g =
     says_told o said now (w ∷ []) _ a c e (inl (record { one = w; is = refl; waits = (asked_waits os w (asked_if (is_asked w os) (order_now os) o f)).1 }))
     (mild_at (open_place os).group o said group g) (one_spoke (open_place os).group o w said now group)
 
-grows_answered_at : (x : Option Agenda) (w : ℕ) (o : Order) (said : Said) (now : ℕ) (c : Course) → c.agenda ≡ x → open_order (left x) w ≡ Some o
-    → GrowsTo c (answered_to (Some o) w said now c) (Spoke o w said now ∷ [])
-grows_answered_at x w o said now c e f = grind (arith, along, grows_decided)
-
 pub grows_answered : (w : ℕ) (o : Order) (said : Said) (now : ℕ) (c : Course) → open_order (left c.agenda) w ≡ Some o → GrowsTo c (course_answered w said now c) (Spoke o w said now ∷ [])
-grows_answered w o said now c e = grind (arith, grows_posted, grows_answered_at)
+grows_answered w o said now c e = grind (arith, grows_posted, along, grows_decided)
 
 -- ## a step
 
 abbrev pub made_now : List Open → ℕ → Option Group → List Deed
 made_now os now None = []
 made_now os now (Some g) = Made g (next_volume os) now ∷ []
-
-step_told : (os : List Open) (now : ℕ) → is_working os ≡ true → made_now os now (open_group os) ≡ map deed_in (said_at os Ok now (next_member os ∷ []))
-step_told os now e = grind arith
 
 says_worked : (now : ℕ) (a : Agenda) (c : Course) → c.agenda ≡ Some a → is_working (groups_left a) ≡ true
     → Grows (Some a) c.outcome (settled (worked now c)).agenda (settled (worked now c)).outcome (made_now (groups_left a) now (open_group (groups_left a)))
@@ -142,7 +134,7 @@ says_worked now a c e f =
       ws = w ∷ [];
       who = inl (record { one = w; is = refl; waits = head_waits a (places a.kind) f });
       mild = not_ok_of_ok (fails_set (order_of (open_place (groups_left a)).group));
-      told = step_told (groups_left a) now f;
+      told = grind arith;
       settles = settles b c.outcome (worked now c) (ap (λ x. option_map (all_say Ok now (next_member (left x) ∷ [])) x) e) refl;
     }))
 
@@ -160,11 +152,7 @@ lost_told now l os = deeds_lost now (lost_order_if (lost_at l (order_now os) (wa
 
 map_lost : (p : Place) (o : Order) (now : ℕ) (ws : List ℕ) → p.group ≡ Orders o → map (λ w. Spoke o w Lost now) ws ≡ map deed_in (map (at_place p Lost now) ws)
 map_lost p o now [] e = refl
-map_lost p o now (w ∷ ws) e =
-    ap (λ g. deed_at g w Lost now ∷ map (λ x. Spoke o x Lost now) ws) (sym e) ∙ ap (λ ds. deed_at p.group w Lost now ∷ ds) (map_lost p o now ws e)
-
-lost_are : (p : Place) (o : Order) (now : ℕ) (ws : List ℕ) → p.group ≡ Orders o → deeds_lost now (lost_order_if ws (Some o)) ws ≡ map deed_in (map (at_place p Lost now) ws)
-lost_are p o now ws e = grind (arith, map_lost)
+map_lost p o now (w ∷ ws) e = grind (arith, map_lost p o now ws e)
 
 -- what is told of lost answers, by the open order
 abbrev lost_by : ℕ → Option Order → List ℕ → List Deed
@@ -179,7 +167,7 @@ grows_lost_to (Some o) now a c e f g =
     let group = now_group os o f in
     subst (λ ws. Grows (Some a) c.outcome (settled (told o Lost now ws c)).agenda (settled (told o Lost now ws c)).outcome (lost_by now (Some o) (waits_now os))) (ap (λ x. waits_now (left x)) (sym e))
     (says_told o Lost now (waits_now os) _ a c e (inr (record { is = refl; writers = ap is_orders group }))
-    (mild_at (open_place os).group o Lost group (rw g refl)) (lost_are (open_place os) o now (waits_now os) group))
+    (mild_at (open_place os).group o Lost group (rw g refl)) (grind (arith, map_lost)))
 
 grows_lost_decided : (fails : Bool) (now : ℕ) (a : Agenda) (c : Course) → c.agenda ≡ Some a → fails_set (order_now (groups_left a)) ≡ fails
     → Grows (Some a) c.outcome (lost_decided fails (lost_to (order_now (groups_left a)) now c)).agenda
@@ -188,14 +176,7 @@ grows_lost_decided fails now a c e f = grind (arith, grows_failed, grows_lost_to
 
 grows_treated_as : (l : Limit) (now : ℕ) (a : Agenda) (c : Course) → c.agenda ≡ Some a
     → Grows (Some a) c.outcome (treated_as l now c).agenda (treated_as l now c).outcome (lost_by now (order_now (groups_left a)) (waits_now (groups_left a)))
-grows_treated_as HoldLimit now a c e = grows_failed a c.outcome _ c _
-grows_treated_as FreezeLimit now a c e = grows_failed a c.outcome _ (lost now c) _
-grows_treated_as AnswerLimit now a c e =
-    let R : Option Agenda
-    → Type 0 = λ x. Grows (Some a) c.outcome (lost_decided (fails_set (order_now (left x))) (lost_to (order_now (left x)) now c)).agenda
-    (lost_decided (fails_set (order_now (left x))) (lost_to (order_now (left x)) now c)).outcome
-    (lost_by now (order_now (groups_left a)) (waits_now (groups_left a))) in
-    subst R (sym e) (grows_lost_decided (fails_set (order_now (groups_left a))) now a c e refl)
+grows_treated_as l now a c e = grind (arith, grows_failed, grows_lost_decided)
 
 lost_by_is : (l : RunningLimit) (now : ℕ) (o : Option Order) (ws : List ℕ) → lost_by now o ws ≡ deeds_lost now (lost_order_if (lost_at (Some l) o ws) o) (lost_at (Some l) o ws)
 lost_by_is l now o ws = grind arith

@@ -1,12 +1,8 @@
 -- The times in a snapshot's log rise, and what is held and frozen is as the deeds since the `snapshot` line tell it.
-use Rattle.std.proofs.Common.{◌≡◌, ◌∙◌, ℕ, ◌+◌, ◌≤◌, List, [], ◌∷◌, ◌++◌, Option, Some, None, refl, Bool, true, false, ap, sym, subst, map, find, fold, arith}
-use Rattle.std.proofs.Common.{◌==◌}
+use Rattle.std.proofs.Common.{◌≡◌, ◌∙◌, ℕ, ◌≤◌, List, [], ◌∷◌, ◌++◌, Option, Some, None, refl, Bool, true, false, ap, subst, map, find, fold, arith, ◌==◌}
 use Rattle.std.proofs.lemmas.Bool.{and_from, and_parts}
-use Rattle.std.specs.Prelude.{◌&&◌, ◌||◌, nat_lt, if◌then◌else◌, is_some, not}
-use Rattle.set_agenda.specs.Agenda.{Agenda, Entry, plain, has_said, is_snapshot, is_freeze, is_thaw, has_frozen, has_thawed, is_held as holds}
-use Rattle.set_agenda.specs.Agenda.{is_frozen as freezes}
-use Rattle.vss_model.specs.Effects.{lost, lost_order}
-use Rattle.vss_model.specs.declared.event.Event.TheVariants.{Line, Answer as AnswerEvent, Provider, Idle}
+use Rattle.std.specs.Prelude.{◌&&◌, ◌||◌, if◌then◌else◌, is_some, not}
+use Rattle.set_agenda.specs.Agenda.{Agenda, Entry, plain, has_said, is_snapshot, has_frozen, has_thawed, is_held as holds, is_frozen as freezes}
 use Rattle.vss_model.proofs.Orderly.{true_not_false}
 use Rattle.vss_model.proofs.Rules.{Running}
 use Rattle.promises.proofs.Accepted.{same_stage}
@@ -19,24 +15,17 @@ use Rattle.promises.proofs.Speaks.{deed_at, deed_in}
 use Rattle.promises.proofs.Stages.{Below, below_more}
 use Rattle.promises.proofs.Members.{both_ways}
 use Rattle.promises.proofs.Whole.{good_along}
-use Rattle.promises.proofs.Words.{list_any, Order, Identify, PrepareBackup, BackupComplete, hold_limit, Group, Orders, Kind, Gather, Prepare, Snapshot}
-use Rattle.promises.proofs.Words.{Complete, Place, Open, places, waited_for, with_group, left_from, groups_left, Course, Plan, Event, Reply, Answered, Stepped}
-use Rattle.promises.proofs.Words.{State, start, Act, enabled, reply, after, state, has_passed, holds_volumes, is_hold_step, held_too_long, frozen_too_long}
-use Rattle.promises.proofs.Words.{unanswered_too_long, is_late_at, is_late_in, ticks_if, Deed, Spoke, Made, steps_told, deeds_told, deeds_lost, deeds_if, deeds}
-use Rattle.promises.proofs.Words.{begins_snapshot, Rising, way_after, way_from, way, Context, PrepareSnapshot, Freeze, Thaw, PostSnapshot, Said, is_ok}
-use Rattle.promises.proofs.Words.{PreCommit, Flush, Hold, Cut, Commit, Release, PostCommit, Stage, Done, Session, stage_after, is_stage, WaitsFor, IsAgendaOf}
-use Rattle.promises.proofs.Words.{orderly, BySnapshot, is_step, progress, StandsStill, takes_snapshot, is_agreed, is_heard, is_made, agreed, heard, made}
-use Rattle.promises.proofs.Words.{kind_is}
+use Rattle.promises.proofs.Words.{list_any, Order, hold_limit, Group, Kind, Snapshot, Open, groups_left, Course, Plan, State, start, Act, enabled, after, state}
+use Rattle.promises.proofs.Words.{has_passed, holds_volumes, is_hold_step, held_too_long, frozen_too_long, unanswered_too_long, is_late_at, is_late_in, Deed}
+use Rattle.promises.proofs.Words.{Spoke, Made, deeds_lost, deeds_if, deeds, begins_snapshot, Rising, way_after, way_from, way, Context, Freeze, Thaw, Said}
+use Rattle.promises.proofs.Words.{Hold, Release, Stage, Done, Session, stage_after, is_stage, WaitsFor, IsAgendaOf, orderly, BySnapshot, is_step, progress}
+use Rattle.promises.proofs.Words.{StandsStill, takes_snapshot, is_made, agreed, heard, made, kind_is}
 
 -- ## The times in a snapshot's log rise. So where more than a limit has gone by since some Hold step, it has since the first.
 
 abbrev time_of : Deed → ℕ
 time_of (Spoke order w said now) = now
 time_of (Made g v now) = now
-
-entry_time : (g : Group) (e : Entry) → time_of (deed_at g e.who e.said e.time) ≡ e.time
-entry_time (Orders o) e = refl
-entry_time _ e = refl
 
 -- ## what one act tells
 
@@ -48,29 +37,13 @@ at_both : (now : ℕ) (xs ys : List Deed) → AllAt now xs → AllAt now ys → 
 at_both now [] ys h i = i
 at_both now (x ∷ xs) ys h i = (h.0, at_both now xs ys h.1 i)
 
-at_steps : (now : ℕ) (g : Group) (v : Option ℕ) (fault : Bool) → AllAt now (steps_told now g v fault)
-at_steps now g v true = tt
-at_steps now g v false = (refl, tt)
-
-at_told : (now : ℕ) (event : Event) (told : Reply) → AllAt now (deeds_told now event told)
-at_told now (Line lane op) told = tt
-at_told now (AnswerEvent w answer) (Answered order a) = (refl, tt)
-at_told now (AnswerEvent w answer) told = tt
-at_told now Provider (Stepped g v fault) = at_steps now g v fault
-at_told now Provider told = tt
-at_told now Idle told = tt
-
 at_lost : (now : ℕ) (o : Option Order) (ws : List ℕ) → AllAt now (deeds_lost now o ws)
 at_lost now None ws = tt
 at_lost now (Some order) [] = tt
 at_lost now (Some order) (w ∷ ws) = (refl, at_lost now (Some order) ws)
 
 at_deeds : (b : Bool) (s : Plan) (st : State) (act : Act) → AllAt (after s st act).clock (deeds_if b s st act)
-at_deeds true s st act =
-    let now = (after s st act).clock in
-    at_both now (deeds_told now act.event (reply s st act)) (deeds_lost now (lost_order st act.event) (lost st act.event))
-    (at_told now act.event (reply s st act)) (at_lost now (lost_order st act.event) (lost st act.event))
-at_deeds false s st act = tt
+at_deeds b s st act = grind (arith, at_both, at_lost)
 
 -- ## every list of acts
 
@@ -80,16 +53,12 @@ pub record InTime (now : ℕ) (ds : List Deed) : Type 0 where
 
 same_below : (k : ℕ) (ds : List Deed) → AllAt k ds → Below k (map time_of ds)
 same_below k [] h = tt
-same_below k (d ∷ ds) h = (at_most (time_of d) k h.0, same_below k ds h.1) where
-  at_most : (a b : ℕ) → a ≡ b → a ≤ b
-  at_most a b e = omega arith
+same_below k (d ∷ ds) h = grind (arith, same_below k ds h.1)
 
 same_rising : (k : ℕ) (ds : List Deed) → AllAt k ds → Rising (map time_of ds)
 same_rising k [] h = tt
 same_rising k (d ∷ []) h = tt
-same_rising k (d ∷ e ∷ ds) h = (not_more (time_of d) (time_of e) k h.0 h.1.0, same_rising k (e ∷ ds) h.1) where
-  not_more : (a b k : ℕ) → a ≡ k → b ≡ k → a ≤ b
-  not_more a b k e f = omega arith
+same_rising k (d ∷ e ∷ ds) h = grind (arith, same_rising k (e ∷ ds) h.1)
 
 rising_with : (k : ℕ) (xs ys : List Deed) → Rising (map time_of xs) → Below k (map time_of xs) → AllAt k ys → Rising (map time_of (xs ++ ys))
 rising_with k [] ys r b h = same_rising k ys h
@@ -103,18 +72,13 @@ below_with : (k : ℕ) (xs ys : List Deed) → Below k (map time_of xs) → AllA
 below_with k [] ys b h = same_below k ys h
 below_with k (x ∷ xs) ys b h = (b.0, below_with k xs ys b.1 h)
 
-later_clock : (s : Plan) (st : State) (act : Act) → st.clock ≤ (after s st act).clock
-later_clock s st act = no_less st.clock (after s st act).clock (ticks_if (enabled s st act.event) st act.event) (clock_after s st act) where
-  no_less : (a b c : ℕ) → b ≡ a + c → a ≤ b
-  no_less a b c e = omega arith
-
 in_time_after : (s : Plan) (st : State) (so_far : List Deed) (act : Act) → InTime st.clock so_far → InTime (after s st act).clock (way_after s st so_far act)
 in_time_after s st so_far act h = by_begin (begins_snapshot s st act) where
   by_begin : (b : Bool) → InTime (after s st act).clock (if b then [] else so_far ++ deeds s st act)
   by_begin true = record { rising = tt; below = tt }
   by_begin false =
       let now = (after s st act).clock in
-      let under = below_more st.clock now (map time_of so_far) (later_clock s st act) h.below in
+      let under = below_more st.clock now (map time_of so_far) (grind (arith, clock_after)) h.below in
       let new = at_deeds (enabled s st act.event) s st act in
       record { rising = rising_with now so_far (deeds s st act) h.rising under new; below = below_with now so_far (deeds s st act) under new }
 
@@ -129,7 +93,7 @@ way_in_time s acts = in_time_from s (start s) [] acts (record { rising = tt; bel
 
 times_are : (log : List Entry) → map time_of (map deed_in log) ≡ map (λ (e : Entry). e.time) log
 times_are [] = refl
-times_are (e ∷ log) = ap (λ n. n ∷ map time_of (map deed_in log)) (entry_time e.place.group e) ∙ ap (λ ns. e.time ∷ ns) (times_are log)
+times_are (e ∷ log) = ap (λ n. n ∷ map time_of (map deed_in log)) (grind arith) ∙ ap (λ ns. e.time ∷ ns) (times_are log)
 
 abbrev pub times : List Entry → List ℕ
 times log = map (λ (e : Entry). e.time) log
@@ -138,15 +102,7 @@ times log = map (λ (e : Entry). e.time) log
 passed_before : (limit now t : ℕ) (test : Entry → Bool) (log : List Entry) → Rising (t ∷ times log)
     → list_any (λ (e : Entry). test e && has_passed limit e.time now) log ≡ true → has_passed limit t now ≡ true
 passed_before limit now t test [] r e = absurd cc
-passed_before limit now t test (x ∷ log) r e = by_head (test x) (has_passed limit x.time now) refl e (passed_before limit now x.time test log r.1) where
-  earlier : (l n a b : ℕ) → a ≤ b → nat_lt (b + l) n ≡ true → nat_lt (a + l) n ≡ true
-  earlier l n a b h e = grind arith
-
-  by_head : (b c : Bool) → has_passed limit x.time now ≡ c → ((b && c) || list_any (λ (e : Entry). test e && has_passed limit e.time now) log) ≡ true
-      → (list_any (λ (e : Entry). test e && has_passed limit e.time now) log ≡ true → has_passed limit x.time now ≡ true) → has_passed limit t now ≡ true
-  by_head true true f g ih = earlier limit now t x.time r.0 f
-  by_head true false f g ih = earlier limit now t x.time r.0 (ih g)
-  by_head false c f g ih = earlier limit now t x.time r.0 (ih g)
+passed_before limit now t test (x ∷ log) r e = grind (arith, passed_before limit now x.time test log r.1)
 
 first_passed : (now : ℕ) (log : List Entry) → Rising (times log) → list_any (λ (e : Entry). is_hold_step e.place.group && has_passed hold_limit e.time now) log ≡ true
     → passed_since now (find (λ (e : Entry). is_hold_step e.place.group) log) ≡ true
@@ -164,27 +120,13 @@ first_passed now (x ∷ log) r e = by_head (is_hold_step x.place.group) (has_pas
     by_head true false f g ih = passed_before hold_limit now x.time (λ (e : Entry). is_hold_step e.place.group) log r g
     by_head false c f g ih = ih g
 
--- only a snapshot holds volumes
-no_hold : (p : Place) (ws : List ℕ) → holds_volumes p.group ≡ false → (o : Open) (os : List Open) → with_group p ws [] ≡ o ∷ os → holds_volumes o.place.group ≡ true → ⊥
-no_hold p [] f o os e h = absurd cc
-no_hold p (w ∷ ws) f o os e h = true_not_false (holds_volumes o.place.group) h (ap (λ (x : Open). holds_volumes x.place.group) (sym (first_of_lists (record { place = p; waits = w ∷ ws }) o os e)) ∙ f)
-  where
-    first_of_lists : (x o : Open) (os : List Open) → x ∷ [] ≡ o ∷ os → x ≡ o
-    first_of_lists x o os e = cc
-
-pub holds_in_snapshot : (k : Kind) (a : Agenda) (o : Open) (os : List Open) → left_from a (places k) ≡ o ∷ os → holds_volumes o.place.group ≡ true → k ≡ Snapshot
-holds_in_snapshot Snapshot a o os e h = refl
-holds_in_snapshot Gather a o os e h = absurd (no_hold (plain (Orders Identify)) (waited_for a (plain (Orders Identify))) refl o os e h)
-holds_in_snapshot Prepare a o os e h = absurd (no_hold (plain (Orders PrepareBackup)) (waited_for a (plain (Orders PrepareBackup))) refl o os e h)
-holds_in_snapshot Complete a o os e h = absurd (no_hold (plain (Orders BackupComplete)) (waited_for a (plain (Orders BackupComplete))) refl o os e h)
-
 -- ## late is due
 
 -- more than the limit has gone by since some Hold step, and so since the first
 pub held_is_first : (now : ℕ) (a : Agenda) (o : Open) (os : List Open) → groups_left a ≡ o ∷ os → (a.kind ≡ Snapshot → Rising (times a.log)) → held_too_long now o.place.group a ≡ true
     → (holds_volumes o.place.group ≡ true) × (held_since_first now a ≡ true)
 held_is_first now a o os e r h =
-    let parts = and_parts (holds_volumes o.place.group) _ h in (parts.0, first_passed now a.log (r (holds_in_snapshot a.kind a o os e parts.0)) parts.1)
+    let parts = and_parts (holds_volumes o.place.group) _ h in (parts.0, first_passed now a.log (r (grind (arith, true_not_false, parts.0))) parts.1)
 
 due_at : (now : ℕ) (c : Course) (a : Agenda) (os : List Open) → groups_left a ≡ os → (a.kind ≡ Snapshot → Rising (times a.log)) → is_late_at now c a os ≡ true → is_due_at now c a os ≡ true
 due_at now c a [] e r h = absurd cc
@@ -193,21 +135,11 @@ due_at now c a (o ∷ os) e r h =
     (unanswered_too_long now o.place a)
     (λ g. let parts = held_is_first now a o os e r g in and_from (holds_volumes o.place.group) (held_since_first now a) parts.0 parts.1) h where
       by_parts : (x y f u : Bool) → (x ≡ true → y ≡ true) → (x || f || u) ≡ true → (y || f || u) ≡ true
-      by_parts true true f u g i = refl
-      by_parts true false f u g i = absurd (differ (g refl)) where
-        differ : false ≡ true → ⊥
-        differ e = cc
-      by_parts false true f u g i = refl
-      by_parts false false f u g i = i
-
-due_in_agenda : (now : ℕ) (c : Course) (a : Option Agenda) → Running (λ (x : Agenda). x.kind ≡ Snapshot → Rising (times x.log)) a → is_late_in now c a ≡ true → is_due_in now c a ≡ true
-due_in_agenda now c None r h = absurd cc
-due_in_agenda now c (Some a) r h = due_at now c a (groups_left a) refl r h
+      by_parts x y f u g i = grind arith
 
 log_in_time : (s : Plan) (ds : List Deed) (a : Option Agenda) → Rising (map time_of ds)
     → Running (λ (x : Agenda). x.kind ≡ Snapshot → (map deed_in x.log ≡ ds) × Good s x) a → Running (λ (x : Agenda). x.kind ≡ Snapshot → Rising (times x.log)) a
-log_in_time s ds None r h = tt
-log_in_time s ds (Some a) r h = λ k. subst Rising (ap (map time_of) (sym (h k).0) ∙ times_are a.log) r
+log_in_time s ds a r h = grind (arith, times_are)
 
 -- in every state
 pub logs_rise : (s : Plan) (acts : List Act) → Running (λ (x : Agenda). x.kind ≡ Snapshot → Rising (times x.log)) (state s acts).course.agenda
@@ -215,7 +147,7 @@ logs_rise s acts = log_in_time s (way s acts) (state s acts).course.agenda (way_
 
 pub late_is_due : (s : Plan) (acts : List Act) (now : ℕ) → is_late_in now (state s acts).course (state s acts).course.agenda ≡ true
     → is_due_in now (state s acts).course (state s acts).course.agenda ≡ true
-late_is_due s acts now h = due_in_agenda now (state s acts).course (state s acts).course.agenda (logs_rise s acts) h
+late_is_due s acts now h = grind (arith, due_at, logs_rise s acts)
 
 -- ## What is held and frozen, as the deeds since the `snapshot` line tell it: they are those of the log of the agenda that runs.
 
@@ -235,41 +167,11 @@ kind_told s so_far a (Some q) e f h =
 
 frozen_told : (log : List Entry) (w : ℕ) → has_frozen log w ≡ agreed Freeze w (map deed_in log)
 frozen_told [] w = refl
-frozen_told (e ∷ log) w = ap (λ b. b || has_frozen log w) (by_group e.place.group) ∙ ap (λ b. is_agreed Freeze w (deed_in e) || b) (frozen_told log w) where
-  by_group : (g : Group) → (is_freeze g && is_ok e.said && (e.who == w)) ≡ is_agreed Freeze w (deed_at g e.who e.said e.time)
-  by_group (Orders Identify) = refl
-  by_group (Orders PrepareBackup) = refl
-  by_group (Orders PrepareSnapshot) = refl
-  by_group (Orders Freeze) = refl
-  by_group (Orders Thaw) = refl
-  by_group (Orders PostSnapshot) = refl
-  by_group (Orders BackupComplete) = refl
-  by_group PreCommit = refl
-  by_group Flush = refl
-  by_group Hold = refl
-  by_group Cut = refl
-  by_group Commit = refl
-  by_group Release = refl
-  by_group PostCommit = refl
+frozen_told (e ∷ log) w = grind (arith, frozen_told log w)
 
 thawed_told : (log : List Entry) (w : ℕ) → has_thawed log w ≡ heard Thaw w (map deed_in log)
 thawed_told [] w = refl
-thawed_told (e ∷ log) w = ap (λ b. b || has_thawed log w) (by_group e.place.group) ∙ ap (λ b. is_heard Thaw w (deed_in e) || b) (thawed_told log w) where
-  by_group : (g : Group) → (is_thaw g && (e.who == w)) ≡ is_heard Thaw w (deed_at g e.who e.said e.time)
-  by_group (Orders Identify) = refl
-  by_group (Orders PrepareBackup) = refl
-  by_group (Orders PrepareSnapshot) = refl
-  by_group (Orders Freeze) = refl
-  by_group (Orders Thaw) = refl
-  by_group (Orders PostSnapshot) = refl
-  by_group (Orders BackupComplete) = refl
-  by_group PreCommit = refl
-  by_group Flush = refl
-  by_group Hold = refl
-  by_group Cut = refl
-  by_group Commit = refl
-  by_group Release = refl
-  by_group PostCommit = refl
+thawed_told (e ∷ log) w = grind (arith, thawed_told log w)
 
 step_told : (s : Plan) (a : Agenda) (g : Group) (v : ℕ) → ((said : Said) (now u : ℕ) → (u == v) ≡ true → is_made g (Some v) (deed_at g u said now) ≡ true) → Good s a
     → has_said a.log (plain g) v ≡ made g (Some v) (map deed_in a.log)
@@ -277,18 +179,13 @@ step_told s a g v own h = both_ways (has_said a.log (plain g) v) (made g (Some v
 
 -- ## every state
 
--- of a running snapshot agenda, by its log; nothing of another one
-held_in : (s : Plan) (ds : List Deed) (v : ℕ) (a : Agenda) (b : Bool) → is_snapshot a.kind ≡ b → (a.kind ≡ Snapshot → (map deed_in a.log ≡ ds) × Good s a)
-    → holds (Some a) v ≡ (b && (made Hold (Some v) ds && not (made Release (Some v) ds)))
-held_in s ds v a b e h = grind (arith, kind_is, step_told)
-
 frozen_in : (s : Plan) (ds : List Deed) (w : ℕ) (a : Agenda) (b : Bool) → is_snapshot a.kind ≡ b → (a.kind ≡ Snapshot → (map deed_in a.log ≡ ds) × Good s a)
     → freezes (Some a) w ≡ (b && (agreed Freeze w ds && not (heard Thaw w ds)))
 frozen_in s ds w a b e h = grind (arith, frozen_told, thawed_told, kind_is)
 
 pub stands_still : (s : Plan) (so_far : List Act) → StandsStill s so_far
 stands_still s so_far = record {
-  held = λ v. by_agenda (λ a. holds a v) (made Hold (Some v) ds && not (made Release (Some v) ds)) refl (λ a e h k. held_in s ds v a (is_step (progress s so_far).step BySnapshot) k h);
+  held = λ v. by_agenda (λ a. holds a v) (made Hold (Some v) ds && not (made Release (Some v) ds)) refl (λ a e h k. grind (arith, kind_is, step_told));
   frozen = λ w. by_agenda (λ a. freezes a w) (agreed Freeze w ds && not (heard Thaw w ds)) refl (λ a e h k. frozen_in s ds w a (is_step (progress s so_far).step BySnapshot) k h);
 } where
   ds : List Deed
@@ -303,8 +200,4 @@ stands_still s so_far = record {
   by_agenda test c none some = at (state s so_far).course.agenda refl (along (Good s) (good_along s) s so_far) (orderly s so_far).agenda where
     at : (x : Option Agenda) → (state s so_far).course.agenda ≡ x → Running (λ (a : Agenda). a.kind ≡ Snapshot → (map deed_in a.log ≡ ds) × Good s a) x
         → IsAgendaOf (state s so_far).course.agenda (state s so_far).session → test (state s so_far).course.agenda ≡ (takes_snapshot s so_far && c)
-    at None e h own = ap test e ∙ none ∙ ap (λ (y : Option Agenda). (is_some y && step) && c) (sym e)
-    at (Some a) e h own =
-        ap test e
-        ∙ some a e h (kind_told s so_far a (state s so_far).session e refl (subst (λ y. IsAgendaOf y (state s so_far).session) e own))
-        ∙ ap (λ (y : Option Agenda). (is_some y && step) && c) (sym e)
+    at x e h own = grind (arith, kind_told)

@@ -1,12 +1,12 @@
 -- What an act makes of a session: its set fails, its agenda ends, or it stays as it is.
-use Rattle.std.proofs.Common.{◌≡◌, ◌∙◌, ℕ, List, ◌⊎◌, Option, Some, None, refl, Bool, true, false, ap, subst, inl, inr, map, arith}
+use Rattle.std.proofs.Common.{◌≡◌, ◌∙◌, ℕ, List, ◌⊎◌, Option, Some, None, refl, Bool, true, false, ap, inl, inr, map, arith}
 use Rattle.std.specs.Prelude.{is_some, option_map}
 use Rattle.promises.proofs.Words.{SetOutcome, VssResult, AsyncCancelled, Said, Mark, Write, Group, Agenda, is_working, Session, makes_set, agenda_ended}
 use Rattle.promises.proofs.Words.{set_failed, Plan, State, SetRow, Kept, is_running, in_progress, left_now, change_set, with_volume, IsOfSession, has_failed}
 use Rattle.promises.proofs.Words.{Act, state, outcome_is_running, course-step_made, MovesOn, moves_answered, moves_stepped, moves_timed, orderly, running_found}
 use Rattle.promises.proofs.Words.{row_running, row_settles, result-settled, failure_of, failure_in, set_failure, Failed as FailedSet, Course}
-use Rattle.promises.proofs.Words.{stepped as course_stepped, AgendaEnds, SetFails, ending, row_settled, runs, concluded, followed, failed_in, failed, cleared}
-use Rattle.promises.proofs.Words.{with_room_if, put, write, reverted_as, step_made, stepped_as, ticked, set_loses_image, true_not_false}
+use Rattle.promises.proofs.Words.{stepped as course_stepped, AgendaEnds, SetFails, ending, row_settled, runs, concluded, followed, failed_in, failed}
+use Rattle.promises.proofs.Words.{put, write, reverted_as, step_made, stepped_as, ticked, true_not_false}
 use Rattle.vss_names.specs.declared.set_outcome.SetOutcome.TheVariants.{Running as RunningSet, Complete as CompleteSet}
 use Rattle.set_agenda.specs.Course.{failed as course_failed}
 use Rattle.vss_model.proofs.StateForm.{answered, stepped}
@@ -145,15 +145,12 @@ module _ (s : Plan) (so_far : List Act) where
 
   -- ## writes and reverts
 
-  room_turn : (v b : ℕ) (c : Bool) → Turn st (with_room_if c (cleared s v b st)) (runs st)
-  room_turn v b c = grind (arith, failed_turn, quiet_turn)
-
   put_turn : (v : ℕ) (w : Write) (mark : Mark) (x : State) → Turn st x (runs st) → Turn st (put v w mark x) (runs st)
   put_turn v w mark x i = grind arith
 
   pub write_turn : (v : ℕ) (w : Write) (mark : Mark) → Turn st (write s v w mark st).1 (runs st)
   unfolding write
-  write_turn v w mark = put_turn v w mark _ (room_turn v w.block (set_loses_image (in_progress st) st.volumes (cleared s v w.block st).volumes))
+  write_turn v w mark = put_turn v w mark _ (grind (arith, failed_turn, quiet_turn))
 
   pub revert_turn : (v : ℕ) (k : Kept) (mark : Mark) → Turn st (reverted_as s v k mark st).1 (runs st)
   revert_turn v k mark = grind (arith, quiet_turn)
@@ -193,10 +190,7 @@ module _ (s : Plan) (so_far : List Act) where
   pub none_started : (q : Session) (x : State) → st.session ≡ Some q → makes_set q.stage ≡ false → set_failure (in_progress st) x ≡ None
   none_started q x f g = by_set (in_progress st) refl (orderly s so_far).session where
     by_set : (o : Option SetRow) → in_progress st ≡ o → IsOfSession st.session st.course.outcome (in_progress st) → set_failure o x ≡ None
-    by_set None e i = refl
-    by_set (Some r) e i =
-        let own : IsOfSession (Some q) st.course.outcome (Some r) = subst (λ o. IsOfSession (Some q) st.course.outcome o) e (subst (λ p. IsOfSession p st.course.outcome (in_progress st)) f i) in
-        absurd (true_not_false (makes_set q.stage) own.0 g)
+    by_set o e i = grind (arith, true_not_false)
 
   pub add_turn : (v : ℕ) (r : SetRow) → Turn st (change_set r.number (with_volume v) st) (runs st)
   add_turn v r = grind (arith, quiet_turn, failure_map, changed_number, changed_result)

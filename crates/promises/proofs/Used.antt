@@ -1,6 +1,6 @@
 -- How many slots the images of a volume use: where images go, no more; where one is cut, as many; where a write comes, at most one
 -- more, and that where it needs a slot; where the volume is reverted, no more.
-use Rattle.std.proofs.Common.{◌≡◌, ◌∙◌, ℕ, ◌+◌, ◌-◌, ◌==◌, ◌≤◌, ◌<◌, List, [], ◌∷◌, ◌++◌, Some, refl, Bool, true, false, ap, sym, subst, map, filter, length, take, drop, arith}
+use Rattle.std.proofs.Common.{◌≡◌, ◌∙◌, ℕ, ◌+◌, ◌-◌, ◌==◌, ◌≤◌, List, [], ◌∷◌, ◌++◌, Some, refl, Bool, true, false, ap, sym, subst, map, filter, length, take, drop, arith}
 use Rattle.std.specs.Prelude.{not, nat_lt, if◌then◌else◌, slice_range}
 use Rattle.promises.proofs.Words.{take-add, drop-append-le, take-append-drop, drop_all, take_all, length-drop, list_any-append, Write, Image}
 use Rattle.promises.proofs.Words.{point_in, up_to_set, AreLater, AreInTime, names, blocks_named, to_restore, restoring, writes_since, used, needs_slot}
@@ -26,10 +26,7 @@ rising_from a from most (i ∷ images) l h = (chain a from i.point l h.0, h.1)
 
 pub rising_fewer : (test : Image → Bool) (from most : ℕ) (images : List Image) → Rising from most images → Rising from most (filter test images)
 rising_fewer test from most [] h = h
-rising_fewer test from most (i ∷ images) h = by_test (test i) (rising_fewer test i.point most images h.1) where
-  by_test : (b : Bool) → Rising i.point most (filter test images) → Rising from most (if b then i ∷ filter test images else filter test images)
-  by_test true ih = (h.0, ih)
-  by_test false ih = rising_from from i.point most (filter test images) h.0 ih
+rising_fewer test from most (i ∷ images) h = grind (arith, rising_from, rising_fewer test i.point most images h.1)
 
 pub rising_cut : (n from most : ℕ) (images : List Image) → Rising from most images → Rising from most (images ++ record { set = n; point = most } ∷ [])
 rising_cut n from most [] h = (h, no_less most)
@@ -46,14 +43,10 @@ rising most (i ∷ images) t = (omega arith, rising_later i most images t.0 t.1 
 -- ## images go
 
 split_inner : (p q r : ℕ) (ws : List Write) → p ≤ q → q ≤ r → take (r - p) (drop p ws) ≡ take (q - p) (drop p ws) ++ take (r - q) (drop (q - p) (drop p ws))
-split_inner p q r ws l h = ap (λ n. take n (drop p ws)) (parts p q r l h) ∙ take-add (q - p) (r - q) (drop p ws) where
-  parts : (p q r : ℕ) → p ≤ q → q ≤ r → r - p ≡ (q - p) + (r - q)
-  parts p q r l h = omega arith
+split_inner p q r ws l h = ap (λ n. take n (drop p ws)) (omega arith) ∙ take-add (q - p) (r - q) (drop p ws)
 
 drop_twice : (p q : ℕ) (ws : List Write) → p ≤ q → drop (q - p) (drop p ws) ≡ drop q ws
-drop_twice p q ws l = drop-drop (q - p) p ws ∙ ap (λ n. drop n ws) (there p q l) where
-  there : (p q : ℕ) → p ≤ q → p + (q - p) ≡ q
-  there p q l = omega arith
+drop_twice p q ws l = drop-drop (q - p) p ws ∙ ap (λ n. drop n ws) (omega arith)
 
 -- the writes since one point are those up to a later one, and those since that
 since_in_parts : (ws : List Write) (p q : ℕ) (newer : List Image) → p ≤ q → Rising q (length ws) newer → writes_since ws p newer ≡ slice_range ws p q ++ writes_since ws q newer
@@ -67,15 +60,12 @@ fewer_from : (test : Image → Bool) (n : ℕ) (ws : List Write) (p : ℕ) (newe
 fewer_from test n ws p [] h = no_less (used_from n ws p [])
 fewer_from test n ws p (i ∷ newer) h = by_test (test i) (fewer_from test n ws i.point newer h.1) (fewer_from test n ws p newer (rising_from p i.point (length ws) newer h.0 h.1))
   where
-    add : (a x y : ℕ) → x ≤ y → a + x ≤ a + y
-    add a x y l = omega arith
-
     over : (x whole a b u : ℕ) → x ≤ whole + u → whole ≤ a + b → x ≤ a + (b + u)
     over x whole a b u l h = omega arith
 
     by_test : (b : Bool) → used_from n ws i.point (filter test newer) ≤ used_from n ws i.point newer → used_from n ws p (filter test newer) ≤ used_from n ws p newer
         → used_from n ws p (if b then i ∷ filter test newer else filter test newer) ≤ used_from n ws p (i ∷ newer)
-    by_test true ih from = add (length (blocks_named n (slice_range ws p i.point))) (used_from n ws i.point (filter test newer)) (used_from n ws i.point newer) ih
+    by_test true ih from = omega arith
     by_test false ih from =
         over (used_from n ws p (filter test newer)) (length (blocks_named n (writes_since ws p newer))) (length (blocks_named n (slice_range ws p i.point)))
         (length (blocks_named n (writes_since ws i.point newer))) (used n ws newer)
@@ -87,23 +77,14 @@ fewer_from test n ws p (i ∷ newer) h = by_test (test i) (fewer_from test n ws 
 -- fewer images use no more slots
 pub fewer_used : (test : Image → Bool) (n from : ℕ) (ws : List Write) (images : List Image) → Rising from (length ws) images → used n ws (filter test images) ≤ used n ws images
 fewer_used test n from ws [] h = omega arith
-fewer_used test n from ws (i ∷ images) h = by_test (test i) (fewer_used test n i.point ws images h.1) where
-  more : (x u a : ℕ) → x ≤ u → x ≤ a + u
-  more x u a l = omega arith
-
-  by_test : (b : Bool) → used n ws (filter test images) ≤ used n ws images → used n ws (if b then i ∷ filter test images else filter test images) ≤ used n ws (i ∷ images)
-  by_test true ih = fewer_from test n ws i.point images h.1
-  by_test false ih = more (used n ws (filter test images)) (used n ws images) (length (blocks_named n (writes_since ws i.point images))) ih
+fewer_used test n from ws (i ∷ images) h = grind (arith, fewer_from, fewer_used test n i.point ws images h.1)
 
 -- a block that is not named since one point needs a slot, where no newer image has a greater point
 needs_from : (b : ℕ) (ws : List Write) (i : Image) (newer : List Image) → Rising i.point (length ws) newer → names (drop i.point ws) b ≡ false → needs_slot ws (i ∷ newer) b ≡ true
 needs_from b ws i [] h e = ap not e
 needs_from b ws i (j ∷ newer) h e = needs_from b ws j newer h.1 (none_later (names (drop j.point ws) b) refl) where
   none_later : (t : Bool) → names (drop j.point ws) b ≡ t → t ≡ false
-  none_later true f = cc_of (names (drop i.point ws) b) (since_later i.point j.point ws h.0 b f) e where
-    cc_of : (u : Bool) → u ≡ true → u ≡ false → true ≡ false
-    cc_of u f g = cc
-  none_later false f = refl
+  none_later t f = grind (arith, since_later)
 
 -- where a write needs a slot with fewer images, it needs one with all
 pub fewer_need : (test : Image → Bool) (b from : ℕ) (ws : List Write) (images : List Image) → Rising from (length ws) images
@@ -111,17 +92,14 @@ pub fewer_need : (test : Image → Bool) (b from : ℕ) (ws : List Write) (image
 fewer_need test b from ws [] h e = e
 fewer_need test b from ws (i ∷ images) h e = by_test (test i) e (fewer_need test b i.point ws images h.1) where
   with_one : (newer : List Image) → needs_slot ws newer b ≡ true → needs_slot ws (i ∷ newer) b ≡ true
-  with_one [] f = absurd cc
-  with_one (j ∷ newer) f = f
+  with_one newer f = grind arith
 
   at_least : (newer : List Image) → (needs_slot ws newer b ≡ true → needs_slot ws images b ≡ true) → needs_slot ws (i ∷ newer) b ≡ true → needs_slot ws (i ∷ images) b ≡ true
-  at_least [] ih f = needs_from b ws i images h.1 (unless (names (drop i.point ws) b) f)
-  at_least (j ∷ newer) ih f = with_one images (ih f)
+  at_least newer ih f = grind (arith, needs_from, unless, with_one)
 
   by_test : (t : Bool) → needs_slot ws (if t then i ∷ filter test images else filter test images) b ≡ true
       → (needs_slot ws (filter test images) b ≡ true → needs_slot ws images b ≡ true) → needs_slot ws (i ∷ images) b ≡ true
-  by_test true f ih = at_least (filter test images) ih f
-  by_test false f ih = with_one images (ih f)
+  by_test t f ih = grind (arith, at_least, with_one)
 
 -- ## an image is cut
 
@@ -131,8 +109,7 @@ up_to_end p ws = take_all (length ws - p) (drop p ws) (subst (λ n. n ≤ length
 -- an image that is cut uses no slot
 pub cut_used : (m n : ℕ) (ws : List Write) (images : List Image) → used n ws (images ++ record { set = m; point = length ws } ∷ []) ≡ used n ws images
 cut_used m n ws [] = ap (λ xs. length (blocks_named n xs) + 0) (drop_all (length ws) ws (no_less (length ws))) ∙ ap (λ k. k + 0) (named_by_none n)
-cut_used m n ws (i ∷ []) = ap (λ xs. length (blocks_named n xs) + used n ws (record { set = m; point = length ws } ∷ [])) (up_to_end i.point ws)
-    ∙ ap (λ k. length (blocks_named n (drop i.point ws)) + k) (cut_used m n ws [])
+cut_used m n ws (i ∷ []) = grind (arith, up_to_end, cut_used m n ws [])
 cut_used m n ws (i ∷ j ∷ images) = ap (λ k. length (blocks_named n (slice_range ws i.point j.point)) + k) (cut_used m n ws (j ∷ images))
 
 -- ## a write
@@ -148,14 +125,8 @@ newest_gains n p ws w l = grind (arith, drop-append-le, named_no_more, or_cases,
 pub written_used : (n from : ℕ) (ws : List Write) (w : Write) (images : List Image) → Rising from (length ws) images
     → used n (ws ++ w ∷ []) images ≤ used n ws images + one_if (needs_slot ws images w.block)
 written_used n from ws w [] h = omega arith
-written_used n from ws w (i ∷ []) h = last _ _ _ (newest_gains n i.point ws w h.1) where
-  last : (x y z : ℕ) → x ≤ y + z → x + 0 ≤ (y + 0) + z
-  last x y z l = omega arith
-written_used n from ws w (i ∷ j ∷ images) h =
-    inner _ _ _ _ _ (ap (λ xs. length (blocks_named n xs)) (inner_append i.point j.point ws (w ∷ []) h.1.0 (rising_most j.point (length ws) images h.1.1)))
-    (written_used n i.point ws w (j ∷ images) h.1) where
-      inner : (a b x y z : ℕ) → a ≡ b → x ≤ y + z → a + x ≤ (b + y) + z
-      inner a b x y z e l = omega arith
+written_used n from ws w (i ∷ []) h = grind (arith, newest_gains)
+written_used n from ws w (i ∷ j ∷ images) h = grind (arith, inner_append, rising_most, written_used n i.point ws w (j ∷ images) h.1)
 
 -- ## a revert
 
@@ -163,14 +134,8 @@ written_used n from ws w (i ∷ j ∷ images) h =
 less_used : (n : ℕ) (ws ys : List Write) (from most : ℕ) (images : List Image) → Rising from most images → ((a : ℕ) → a ≤ most → NameNoMore (drop a ys) (drop a ws))
     → ((a b : ℕ) → a ≤ b → b ≤ most → NameNoMore (slice_range ys a b) (slice_range ws a b)) → used n ys images ≤ used n ws images
 less_used n ws ys from most [] h last inner = omega arith
-less_used n ws ys from most (i ∷ []) h last inner = same _ _ (named_no_more n (drop i.point ys) (drop i.point ws) (last i.point h.1)) where
-  same : (x y : ℕ) → x ≤ y → x + 0 ≤ y + 0
-  same x y l = omega arith
-less_used n ws ys from most (i ∷ j ∷ images) h last inner =
-    both _ _ _ _ (named_no_more n (slice_range ys i.point j.point) (slice_range ws i.point j.point)
-    (inner i.point j.point h.1.0 (rising_most j.point most images h.1.1))) (less_used n ws ys i.point most (j ∷ images) h.1 last inner) where
-      both : (a b x y : ℕ) → a ≤ b → x ≤ y → a + x ≤ b + y
-      both a b x y l h = omega arith
+less_used n ws ys from most (i ∷ []) h last inner = grind (arith, named_no_more)
+less_used n ws ys from most (i ∷ j ∷ images) h last inner = grind (arith, named_no_more, rising_most, less_used n ws ys i.point most (j ∷ images) h.1 last inner)
 
 -- the images up to one rise to its point
 pub rising_up_to : (m p most from : ℕ) (images : List Image) → Rising from most images → AreInTime most images → point_in m images ≡ Some p → Rising from p (up_to_set m images)
@@ -178,21 +143,12 @@ rising_up_to m p most from [] h t e = absurd cc
 rising_up_to m p most from (i ∷ images) h t e = by_test (i.set == m) (not (nat_lt m i.set)) refl refl e (rising_up_to m p most i.point images h.1 t.2) where
   none_later : (js : List Image) → AreLater i js → (i.set == m) ≡ true → up_to_set m js ≡ []
   none_later [] l f = refl
-  none_later (j ∷ js) l f = by_less (not (nat_lt m j.set)) (past i.set m j.set f l.0) (none_later js l.2 f) where
-    past : (a m b : ℕ) → (a == m) ≡ true → a < b → not (nat_lt m b) ≡ false
-    past a m b e l = grind arith
-
-    by_less : (t : Bool) → t ≡ false → up_to_set m js ≡ [] → (if t then j ∷ up_to_set m js else up_to_set m js) ≡ []
-    by_less true g ih = absurd cc
-    by_less false g ih = ih
-
-  is_kept : (a m : ℕ) → (a == m) ≡ true → not (nat_lt m a) ≡ true
-  is_kept a m e = grind arith
+  none_later (j ∷ js) l f = grind (arith, none_later js l.2 f)
 
   by_test : (t u : Bool) → (i.set == m) ≡ t → not (nat_lt m i.set) ≡ u → (if t then Some i.point else point_in m images) ≡ Some p
       → (point_in m images ≡ Some p → Rising i.point p (up_to_set m images)) → Rising from p (if u then i ∷ up_to_set m images else up_to_set m images)
   by_test true true f g e ih = (h.0, subst (Rising i.point p) (sym (none_later images t.1 f)) (subst (λ q. i.point ≤ q) (some_same i.point p e) (no_less i.point)))
-  by_test true false f g e ih = absurd (true_not_false (not (nat_lt m i.set)) (is_kept i.set m f) g)
+  by_test true false f g e ih = absurd (true_not_false (not (nat_lt m i.set)) (grind arith) g)
   by_test false true f g e ih = (h.0, ih e)
   by_test false false f g e ih = rising_from from i.point p (up_to_set m images) h.0 (ih e)
 
@@ -205,10 +161,7 @@ reverted_used n m p ws images t e =
 -- a point is not past the end
 point_most : (m p most : ℕ) (images : List Image) → AreInTime most images → point_in m images ≡ Some p → p ≤ most
 point_most m p most [] t e = absurd cc
-point_most m p most (i ∷ images) t e = by_test (i.set == m) e (point_most m p most images t.2) where
-  by_test : (b : Bool) → (if b then Some i.point else point_in m images) ≡ Some p → (point_in m images ≡ Some p → p ≤ most) → p ≤ most
-  by_test true f ih = subst (λ q. q ≤ most) (some_same i.point p f) t.0
-  by_test false f ih = ih f
+point_most m p most (i ∷ images) t e = grind (arith, some_same, point_most m p most images t.2)
 
 pub restored_used : (blocks k n m p : ℕ) (ws : List Write) (images : List Image) → AreInTime (length ws) images → point_in m images ≡ Some p
     → used n (ws ++ map (restoring ws p) (take k (to_restore blocks ws p))) (up_to_set m images) ≤ used n ws images

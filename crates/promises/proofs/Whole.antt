@@ -6,7 +6,7 @@ use Rattle.promises.proofs.Words.{Hold, Cut, Commit, Release, PostCommit, Snapsh
 use Rattle.promises.proofs.Words.{said_stays, IsOf, Tied, tied, true_not_false, waits_members, and_from, false_from_ne_true, or_left, or_right, Agenda, Entry}
 use Rattle.promises.proofs.Words.{Open, plain, places, group_code, level_code, same_place, order_of, is_orders, has_said, writers_at, members_of, waited_for}
 use Rattle.promises.proofs.Words.{left_from, groups_left, open_place, is_among, waits_now, is_done, at_place, all_say, Deed, level_of, stage, Rising, is_heard}
-use Rattle.promises.proofs.Words.{is_agreed, is_made, is_again, AreOnce, is_failure, heard, agreed, made, IsWholeWay, CompletesByTheWay, Spoke, number_is}
+use Rattle.promises.proofs.Words.{is_agreed, is_made, is_again, AreOnce, heard, agreed, made, IsWholeWay, CompletesByTheWay, Spoke, number_is}
 use Rattle.promises.proofs.Words.{unless, all_said, either_way, filter_passes, waits_unsaid}
 use Rattle.set_agenda.specs.Agenda.{has_failed}
 use Rattle.promises.specs.Way.{failed}
@@ -101,8 +101,7 @@ module _ (s : Plan) (said : Said) (now : ℕ) (ws : List ℕ) (a : Agenda) (k : 
       by_head : (b : Bool) → (x == u) ≡ b → (b || is_among u us) ≡ true
           → (is_among u us ≡ true → list_any test (map deed_in (map (at_place p said now) us)) ≡ true)
           → (test (deed_at p.group x said now) || list_any test (map deed_in (map (at_place p said now) us))) ≡ true
-      by_head true i e ih = or_left (test (deed_at p.group x said now)) _ (subst (λ z. test (deed_at p.group z said now) ≡ true) (sym (number_is x u i)) f)
-      by_head false i e ih = or_right (test (deed_at p.group x said now)) _ (ih e)
+      by_head b i e ih = grind (arith, or_left, number_is, or_right)
 
   plain_place : is_orders p.group ≡ false → p ≡ plain p.group
   plain_place e = grind (arith, snapshot_left, open_plain, steps_plain)
@@ -204,9 +203,7 @@ module _ (s : Plan) (said : Said) (now : ℕ) (ws : List ℕ) (a : Agenda) (k : 
       let post = post_group p.group w u said now i in
       still (is_agreed Thaw w) (thaw_at u w f post.0 post.1 (none_left os ws (waits_in ws a who)))) where
         thaw_at : (u w : ℕ) → is_among u ws ≡ true → p.group ≡ Orders PostSnapshot → u ≡ w → (ws ≡ []) ⊎ (open_stage os ≡ place_stage p) → agreed Thaw w (deeds_in a) ≡ true
-        thaw_at u w f e s (inl n) = absurd (no_one (subst (λ xs. is_among u xs ≡ true) n f)) where
-          no_one : is_among u [] ≡ true → ⊥
-          no_one h = cc
+        thaw_at u w f e s (inl n) = absurd (grind (arith, subst (λ xs. is_among u xs ≡ true) n f))
         thaw_at u w f e s (inr n) =
             let member = subst (λ x. is_among x (members_of a (Orders PostSnapshot) p.level) ≡ true) s (subst (λ h. is_among u (members_of a h p.level) ≡ true) e (member_at u f)) in
             let at : open_stage (left_from a (places Snapshot)) ≡ 14 = sym (ap open_stage (snapshot_left a k)) ∙ n ∙ ap (λ h. group_stage h p.level) e in
@@ -234,16 +231,7 @@ module _ (s : Plan) (said : Said) (now : ℕ) (ws : List ℕ) (a : Agenda) (k : 
 
 same_failed : (log : List Entry) (w : ℕ) → has_failed log w ≡ failed w (map deed_in log)
 same_failed [] w = refl
-same_failed (x ∷ log) w = at_group x.place.group x.said x.who x.time ∙ ap (λ b. is_failure w (deed_in x) || b) (same_failed log w) where
-  at_group : (h : Group) (said : Said) (u now : ℕ) → ((is_orders h && not (is_ok said) && (u == w)) || has_failed log w) ≡ (is_failure w (deed_at h u said now) || has_failed log w)
-  at_group (Orders o) said u now = refl
-  at_group PreCommit said u now = refl
-  at_group Flush said u now = refl
-  at_group Hold said u now = refl
-  at_group Cut said u now = refl
-  at_group Commit said u now = refl
-  at_group Release said u now = refl
-  at_group PostCommit said u now = refl
+same_failed (x ∷ log) w = grind (arith, same_failed log w)
 
 post_heard : (a : Agenda) → Closed a 15 (places Snapshot) → (w : ℕ) → is_member a.members w ≡ true → failed w (deeds_in a) ≡ false → heard PostSnapshot w (deeds_in a) ≡ true
 post_heard a c w e f =

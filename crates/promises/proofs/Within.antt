@@ -14,13 +14,12 @@ use Rattle.promises.proofs.Times.{late_is_due}
 use Rattle.promises.proofs.Words.{Order, VssResult, AsyncCancelled, Said, Ok, Lost, WriterRow, is_ok, row_after, default_freeze, Mark, Write, said_of, Group}
 use Rattle.promises.proofs.Words.{Kind, Limit, Member, Agenda, Open, order_of, is_orders, groups_left, left, waits_now, order_now, is_among, open_order}
 use Rattle.promises.proofs.Words.{is_working, next_member, all_say, Running as RunningLimit, answer_runs, running_at, running_limits, spent_of, none_and_some}
-use Rattle.promises.proofs.Words.{spent_here, Session, Plan, Event, State, SetRow, Kept, start, in_progress, left_now, Act, enabled, idle_now, after, state}
+use Rattle.promises.proofs.Words.{spent_here, Session, Plan, Event, State, SetRow, start, in_progress, left_now, Act, enabled, idle_now, after, state}
 use Rattle.promises.proofs.Words.{is_late_in, asked_if, asked_waits, StandsWithinLimits, Covers, covered, after_enabled, after_not_enabled, false_from_ne_true}
-use Rattle.promises.proofs.Words.{Answer as AnswerLimit, Course, posted, rows_where, row_if, limit_of, freeze_limit, limits_now, settled_if, settled_in}
-use Rattle.promises.proofs.Words.{settled, begun, told, is_decisive, decided, answered_to, answered as course_answered, worked, stepped as course_stepped}
-use Rattle.promises.proofs.Words.{lost_to, lost, fails_set, lost_decided, treated_as, treated, timed as course_timed, released, Ending, ending, runs, concluded}
-use Rattle.promises.proofs.Words.{followed, failed_in, failed, Replied, with_room_if, put, write, reverted_as, closed, step_made, stepped_as, ticked, unspoken}
-use Rattle.promises.proofs.Words.{head_waits, true_not_false, informs_writers, is_overdue_at, is_overdue_in, OrdersEnd, answer_since, and_parts}
+use Rattle.promises.proofs.Words.{Answer as AnswerLimit, Course, posted, rows_where, limit_of, freeze_limit, limits_now, settled, begun, told, is_decisive}
+use Rattle.promises.proofs.Words.{decided, answered_to, answered as course_answered, worked, stepped as course_stepped, lost_to, lost, fails_set, lost_decided}
+use Rattle.promises.proofs.Words.{treated_as, treated, timed as course_timed, released, runs, followed, failed_in, failed, Replied, write, closed, step_made}
+use Rattle.promises.proofs.Words.{stepped_as, ticked, unspoken, head_waits, true_not_false, informs_writers, is_overdue_at, OrdersEnd, answer_since, and_parts}
 
 -- ## No limit that would fail the set is outrun as the clock stands.
 
@@ -37,23 +36,14 @@ keeps_posted : (now : ℕ) (prior c : Course) → Keeps now c → Keeps now (pos
 unfolding posted
 keeps_posted now prior c h = h
 
-keeps_settled_if : (now : ℕ) (b : Bool) (k : Kind) (c : Course) → Keeps now c → Keeps now (settled_if b k c)
-keeps_settled_if now b k c h = grind arith
-
-keeps_settled_in : (now : ℕ) (o : Option Agenda) (c : Course) → Keeps now c → Keeps now (settled_in o c)
-keeps_settled_in now o c h = grind (arith, keeps_settled_if)
-
 keeps_settled : (now : ℕ) (c : Course) → Keeps now c → Keeps now (settled c)
 unfolding settled
-keeps_settled now c h = keeps_settled_in now c.agenda c h
+keeps_settled now c h = grind arith
 
 -- what is said leaves time-outs as they are
 limit_stays : (o : Order) (said : Said) (test : ℕ → Bool) (k : ℕ) (rows : List WriterRow) (w : ℕ) → limit_of (slice_get (rows_where (row_after o said) test k rows) w) ≡ limit_of (slice_get rows w)
 limit_stays o said test k [] w = refl
-limit_stays o said test k (r ∷ rows) zero = by_test (test k) where
-  by_test : (b : Bool) → (row_if b (row_after o said) r).limit ≡ r.limit
-  by_test true = refl
-  by_test false = refl
+limit_stays o said test k (r ∷ rows) zero = grind arith
 limit_stays o said test k (r ∷ rows) (suc w) = limit_stays o said test (k + 1) rows w
 
 least_stays : (rows newer : List WriterRow) → ((w : ℕ) → limit_of (slice_get newer w) ≡ limit_of (slice_get rows w)) → (least : ℕ) (ms : List Member)
@@ -77,9 +67,6 @@ keeps_told o said now ws c h =
     (least_stays c.rows (rows_where (row_after o said) (λ w. is_among w ws) 0 c.rows) (limit_stays o said (λ w. is_among w ws) 0 c.rows) default_freeze c.members)
     h
 
-one_may : (now f w : ℕ) (x : Option Agenda) (o : Order) → open_order (left x) w ≡ Some o → Running (InTime now f) x → MaySay now f (w ∷ []) x
-one_may now f w x o e h = grind (arith, asked_waits, asked_if)
-
 keeps_decided : (now : ℕ) (b : Bool) (said : Said) (c : Course) → Keeps now c → Keeps now (decided b said c)
 keeps_decided now true said c h = keeps_failed now _ c
 keeps_decided now false said c h = keeps_settled now c h
@@ -87,29 +74,20 @@ keeps_decided now false said c h = keeps_settled now c h
 keeps_answered_to : (x : Option Order) (w : ℕ) (said : Said) (now : ℕ) (c : Course) → open_order (left c.agenda) w ≡ x → Keeps now c → Keeps now (answered_to x w said now c)
 keeps_answered_to None w said now c e h = h
 keeps_answered_to (Some o) w said now c e h = keeps_decided now (is_decisive o && not (is_ok said)) said _
-    (keeps_told o said now (w ∷ []) c (says_at now (freeze_limit c) said (w ∷ []) c.agenda (one_may now (freeze_limit c) w c.agenda o e h)))
+    (keeps_told o said now (w ∷ []) c (says_at now (freeze_limit c) said (w ∷ []) c.agenda (grind (arith, asked_waits, asked_if))))
 
 keeps_answered : (w : ℕ) (said : Said) (now : ℕ) (c : Course) → Keeps now c → Keeps now (course_answered w said now c)
 keeps_answered w said now c h = keeps_posted now c _ (keeps_answered_to (open_order (left c.agenda) w) w said now c refl h)
 
-step_may : (now f : ℕ) (x : Option Agenda) → is_working (left x) ≡ true → Running (InTime now f) x → MaySay now f (next_member (left x) ∷ []) x
-step_may now f x e h = grind (arith, head_waits)
-
 keeps_worked : (now : ℕ) (c : Course) → is_working (left c.agenda) ≡ true → Keeps now c → Keeps now (worked now c)
 unfolding worked
-keeps_worked now c e h = says_at now (freeze_limit c) Ok (next_member (left c.agenda) ∷ []) c.agenda (step_may now (freeze_limit c) c.agenda e h)
+keeps_worked now c e h = says_at now (freeze_limit c) Ok (next_member (left c.agenda) ∷ []) c.agenda (grind (arith, head_waits))
 
 keeps_stepped : (ok : Bool) (now : ℕ) (c : Course) → is_working (left c.agenda) ≡ true → Keeps now c → Keeps now (course_stepped ok now c)
 keeps_stepped true now c e h = keeps_posted now c _ (keeps_settled now (worked now c) (keeps_worked now c e h))
 keeps_stepped false now c e h = keeps_posted now c _ (keeps_failed now _ c)
 
 -- ## time
-
-in_order : (now f : ℕ) (x : Option Agenda) → Running (InTime now f) x → Running Ordered x
-in_order now f x h = grind arith
-
-goes_by : (now f : ℕ) (x : Option Agenda) → spent_of now (running_limits f x) ≡ None → Running Ordered x → Running (InTime now f) x
-goes_by now f x e h = grind arith
 
 -- where the answer limit is spent, writers are asked
 asks : (now f : ℕ) (a : Agenda) (o : Open) (os : List Open) (l : RunningLimit) → spent_of now (running_at f a (o ∷ os)) ≡ Some l → l.limit ≡ AnswerLimit → answer_runs o.place.group ≡ true
@@ -122,8 +100,7 @@ nobody_asked : (now f : ℕ) (x : Option Agenda) (l : RunningLimit) → spent_of
 nobody_asked now f None l e k i = none_and_some None l refl e
 nobody_asked now f (Some a) l e k i = at_list (groups_left a) e i where
   at_list : (os : List Open) → spent_of now (running_at f a os) ≡ Some l → order_now os ≡ None → ⊥
-  at_list [] e i = none_and_some None l refl e
-  at_list (o ∷ os) e i = answers_order o.place.group (asks now f a o os l e k) i
+  at_list os e i = grind (arith, none_and_some, answers_order, asks)
 
 all_lost : (now f : ℕ) (x : Option Agenda) (o : Order) → order_now (left x) ≡ Some o → is_decisive o ≡ false → Running Ordered x
     → Running (InTime now f) (option_map (all_say Lost now (waits_now (left x))) x)
@@ -146,7 +123,7 @@ keeps_treated_as FreezeLimit now c l e k h = keeps_failed now _ (lost now c)
 keeps_treated_as AnswerLimit now c l e k h = keeps_lost (fails_set (order_now (left c.agenda))) now c l refl e k h
 
 keeps_treated : (o : Option RunningLimit) (now : ℕ) (c : Course) → spent_of now (limits_now c) ≡ o → Running Ordered c.agenda → Keeps now (treated o now c)
-keeps_treated None now c e h = goes_by now (freeze_limit c) c.agenda e h
+keeps_treated None now c e h = grind arith
 keeps_treated (Some l) now c e h = keeps_treated_as l.limit now c l e refl h
 
 keeps_timed : (now : ℕ) (c : Course) → Running Ordered c.agenda → Keeps now (course_timed now c)
@@ -168,30 +145,18 @@ keeps_begun k ms vs now c =
 abbrev InTimeNow : State → Type 0
 InTimeNow st = Keeps st.clock st.course
 
-ended_in_time : (e : Ending) (x : State) → InTimeNow x → InTimeNow (concluded e x)
-ended_in_time e x h = grind arith
-
 followed_in_time : (ran : Bool) (c : Course) (x : State) → Keeps x.clock c → InTimeNow (followed ran c x)
 unfolding followed
-followed_in_time ran c x h = ended_in_time (ending x.course.outcome c.outcome ran c.agenda) (record x { course = c }) h
+followed_in_time ran c x h = grind arith
 
 failed_in_time : (o : Option SetRow) (why : VssResult) (x : State) → InTimeNow x → InTimeNow (failed_in o why x)
 failed_in_time None why x h = h
 failed_in_time (Some r) why x h = keeps_failed x.clock why x.course
 
-room_in_time : (b : Bool) (x : State) → InTimeNow x → InTimeNow (with_room_if b x)
-room_in_time b x h = grind (arith, failed_in_time)
-
-put_in_time : (v : ℕ) (w : Write) (mark : Mark) (x : State) → InTimeNow x → InTimeNow (put v w mark x)
-put_in_time v w mark x h = grind arith
-
 module _ (s : Plan) (st : State) (h : InTimeNow st) where
   on_write : (v : ℕ) (w : Write) (mark : Mark) → InTimeNow (write s v w mark st).1
   unfolding write
-  on_write v w mark = grind (arith, put_in_time, room_in_time)
-
-  on_revert : (v : ℕ) (k : Kept) (mark : Mark) → InTimeNow (reverted_as s v k mark st).1
-  on_revert v k mark = grind arith
+  on_write v w mark = grind (arith, failed_in_time)
 
   on_close : (q : Session) (x : State) → InTimeNow (closed q x)
   unfolding closed released
@@ -203,7 +168,7 @@ module _ (s : Plan) (st : State) (h : InTimeNow st) where
 
   on_tick : (n : ℕ) → InTimeNow (ticked n st)
   unfolding ticked
-  on_tick n = grind (arith, followed_in_time, keeps_timed, in_order)
+  on_tick n = grind (arith, followed_in_time, keeps_timed)
 
   on_step_as : (b : Bool) (g : Option Group) (v : Option ℕ) → is_working (left_now st) ≡ true → InTimeNow (stepped_as b g v st)
   on_step_as true g v e = followed_in_time (runs st) (course_stepped false st.clock st.course) st (keeps_stepped false st.clock st.course e h)
@@ -222,7 +187,7 @@ module _ (s : Plan) (st : State) (h : InTimeNow st) where
   in_time = record {
     stays = λ lane o mark told e f. h;
     writes = λ lane o v w mark e f. on_write v w mark;
-    reverts = λ lane n v k mark e f. on_revert v k mark;
+    reverts = λ lane n v k mark e f. grind arith;
     deletes_set = λ lane n c mark e. h;
     deletes_image = λ lane n v k mark e. h;
     ticks = λ lane n mark. on_tick n;
@@ -263,10 +228,7 @@ not_late now c (Some a) h due = false_from_ne_true _ (λ late. let spends = due_
 pub stands_within_limits : (s : Plan) (so_far : List Act) → StandsWithinLimits s so_far
 stands_within_limits s so_far =
     let st = state s so_far in
-    subst (λ n. is_late_in n st.course st.course.agenda ≡ false) (no_more st.clock) (not_late st.clock st.course st.course.agenda (none_spent s so_far) (late_is_due s so_far st.clock))
-  where
-    no_more : (n : ℕ) → n ≡ n + 0
-    no_more n = omega arith
+    subst (λ n. is_late_in n st.course st.course.agenda ≡ false) (omega arith) (not_late st.clock st.course st.course.agenda (none_spent s so_far) (late_is_due s so_far st.clock))
 
 -- ## No order is open for more than the answer limit.
 
@@ -276,8 +238,5 @@ informing_runs g e = grind arith
 not_overdue_at : (now f : ℕ) (a : Agenda) (os : List Open) → spent_of now (running_at f a os) ≡ None → is_overdue_at now a os ≡ false
 not_overdue_at now f a os e = grind (arith, false_from_ne_true, and_parts, passed_spent, answer_since, none_second, true_not_false, is_unspent, informing_runs)
 
-not_overdue : (now f : ℕ) (x : Option Agenda) → Running (InTime now f) x → is_overdue_in now x ≡ false
-not_overdue now f x h = grind (arith, not_overdue_at)
-
 pub orders_end : (s : Plan) (so_far : List Act) → OrdersEnd s so_far
-orders_end s so_far = not_overdue (state s so_far).clock (freeze_limit (state s so_far).course) (state s so_far).course.agenda (none_spent s so_far)
+orders_end s so_far = grind (arith, not_overdue_at, none_spent s so_far)
