@@ -24,7 +24,6 @@ use std::fs;
 use std::io::ErrorKind;
 use std::sync::Arc;
 use vss_names::{MOST_BLOCKS, MOST_SLOTS, MOST_VOLUMES, Text};
-use write_history::Evicted;
 
 /// What is refused of the words of one volume, beside those before it.
 fn check_pair(
@@ -110,21 +109,31 @@ pub fn blocks_for(program: &Program, pair: Pair<'_>, length: u64) -> Result<u32,
     Err(ended!(*program, Refused; "{file}: length: {length} bytes, and a file has at most {most}"))
 }
 
+/// The file of a pair, opened for the part of this number that the folder keeps of it. The pair has its blocks from then on.
+fn input_of<'a>(
+    program: &Program,
+    pair: &mut Pair<'a>,
+    number: u32,
+) -> Result<FileInput<'a>, Status> {
+    let mut input = FileInput::open(program, pair.file)?;
+    let blocks = blocks_for(program, *pair, input.length())?;
+    input.fit(pair.name, blocks)?;
+    pair.blocks = Some(blocks);
+    let part = Part::of(number as usize, parts_for(blocks) as usize);
+    input.take_part(part, blocks_of_part(blocks, number));
+    Ok(input)
+}
+
 /// The file of a pair, opened once for each part that the folder keeps of it. If it has no blocks yet it gets as many as it needs.
 pub fn inputs_of<'a>(program: &Program, pair: Pair<'a>) -> Result<Vec<FileInput<'a>>, Status> {
-    let (mut inputs, mut parts) = (Vec::new(program.alloc()), 1);
-    let mut pair = pair;
+    let (mut inputs, mut pair) = (Vec::new(program.alloc()), pair);
+    let mut parts = 1;
     for number in 0..MOST_VOLUMES {
         if number >= parts {
             break;
         }
-        let mut input = FileInput::open(program, pair.file)?;
-        let blocks = blocks_for(program, pair, input.length())?;
-        input.fit(pair.name, blocks)?;
-        (pair.blocks, parts) = (Some(blocks), parts_for(blocks));
-        let part = Part::of(number as usize, parts as usize);
-        input.take_part(part, blocks_of_part(blocks, number));
-        inputs.push(input)?;
+        inputs.push(input_of(program, &mut pair, number)?)?;
+        parts = parts_for(pair.blocks.unwrap_or(0));
     }
     Ok(inputs)
 }
@@ -142,6 +151,19 @@ fn check_place(
     Ok(())
 }
 
+/// Adds the job of a file that was opened, of the next new volume of a folder.
+fn add_job<'a>(
+    program: &Program,
+    path: &str,
+    file: &str,
+    input: FileInput<'a>,
+    jobs: &mut Vec<Job<'a>>,
+) -> Result<(), Status> {
+    check_place(program, path, file, &input)?;
+    let volume = u32::try_from(jobs.len()).unwrap_or(u32::MAX);
+    Ok(jobs.push(Job::new(program.alloc(), volume, input)?)?)
+}
+
 /// Adds the jobs of a pair, of the new volumes of a folder behind those of the jobs that there are.
 fn add_jobs<'a>(
     program: &Program,
@@ -150,26 +172,28 @@ fn add_jobs<'a>(
     jobs: &mut Vec<Job<'a>>,
 ) -> Result<(), Status> {
     for input in inputs_of(program, pair)? {
-        check_place(program, path, pair.file, &input)?;
-        let volume = u32::try_from(jobs.len()).unwrap_or(u32::MAX);
-        jobs.push(Job::new(program.alloc(), volume, input)?)?;
+        add_job(program, path, pair.file, input, jobs)?;
     }
     check_count(program, jobs.len())
 }
 
 /// Brings all new volumes to their files. No block of zeros is written. The head of the store is answered.
-fn put_all(
-    program: &Program,
-    store: &mut Files,
-    jobs: &mut [Job<'_>],
-    gone: &mut Vec<Evicted>,
-) -> Result<Text, Status> {
+fn put_all(program: &Program, store: &mut Files, jobs: &mut [Job<'_>]) -> Result<Text, Status> {
+    let mut gone = Vec::new(program.alloc());
     for job in jobs.iter_mut() {
         compare(job, store)?;
-        overwrite(job, store, gone)?;
+        overwrite(job, store, &mut gone)?;
     }
     check_all(jobs)?;
     Ok(store.head(program.alloc())?)
+}
+
+/// Commits what a new folder has, by the head of its store.
+fn commit_new(folder: &Folder, head: &Text, slots: u32, jobs: &[Job<'_>]) -> Result<(), Status>
+    requires { slots ≤ MOST_SLOTS }
+{
+    folder.note_together(&brought_of(folder.program.alloc(), jobs)?)?;
+    folder.commit(head.bytes(), slots)
 }
 
 /// Fills a new folder, and sees that it lasts.
@@ -178,12 +202,11 @@ fn fill(folder: &Folder, slots: u32, jobs: &mut [Job<'_>]) -> Result<(), Status>
 {
     let mut store = new_store(folder, slots, jobs)?;
     let program = &folder.program;
-    match put_all(program, &mut store, jobs, &mut Vec::new(program.alloc())) {
+    match put_all(program, &mut store, jobs) {
         Err(status) => Err(take_apart(program, store, status)),
         Ok(head) => {
             close(program, store)?;
-            folder.note_together(&brought_of(program.alloc(), jobs)?)?;
-            folder.commit(head.bytes(), slots)
+            commit_new(folder, &head, slots, jobs)
         }
     }
 }
@@ -217,6 +240,22 @@ fn create_new(program: &Program, new: &str) -> Result<(), Status> {
     of_folder(program, new, "could not be created", made)
 }
 
+/// Fills the folder that was made under its new name, of which these are the sums, and gives it its own.
+fn make_in(
+    program: &Program,
+    new: &str,
+    path: &str,
+    sums: SumTable,
+    slots: u32,
+    jobs: &mut [Job<'_>],
+) -> Result<(), Status>
+    requires { slots ≤ MOST_SLOTS }
+{
+    let mut folder = Folder::hold(program, new)?;
+    folder.sums = Some(Arc::new(program.alloc(), sums)?);
+    make(&folder, path, slots, jobs)
+}
+
 /// Makes a folder of the volumes of these jobs, which are those of its numbers from 0 on. Where it fails, nothing of it is left.
 pub fn make_new(
     program: &Program,
@@ -233,13 +272,7 @@ pub fn make_new(
     )?;
     let new = format!(in program.alloc(); "{path}.new")?;
     create_new(program, new.as_str())?;
-    let made = match Folder::hold(program, new.as_str()) {
-        Ok(mut folder) => {
-            folder.sums = Some(Arc::new(program.alloc(), sums)?);
-            make(&folder, path, slots, jobs)
-        }
-        Err(status) => Err(status),
-    };
+    let made = make_in(program, new.as_str(), path, sums, slots, jobs);
     if made.is_err() {
         let _ = fs::remove_dir_all(&program.rt, new.as_str());
     }

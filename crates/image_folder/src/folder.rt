@@ -32,9 +32,6 @@ pub const TOGETHER: &str = "images.together";
 /// The name of the file that has when sets were cut.
 pub const DATES: &str = "images.dates";
 
-/// What becomes the state's file by a rename.
-const STATE_NEW: &str = "images.state.new";
-
 /// The most bytes of a marker.
 const MOST_MARKER: u64 = 8192;
 
@@ -154,12 +151,22 @@ impl Folder {
         Ok(is_same(&parent, &self.held.metadata()?))
     }
 
+    /// The path of the file that is made for a name.
+    fn path_of_new(&self, name: &str) -> Result<String, AllocError> {
+        format!(in self.program.alloc(); "{}/{name}.new", self.path)
+    }
+
+    /// Makes the file of lines for a name.
+    fn new_lines(&self, name: &str, lines: &str) -> Result<File, Status> {
+        let text = sealed(self.program.alloc(), lines)?;
+        let new = self.path_of_new(name)?;
+        let made = write_whole(&self.program, new.as_str(), text.as_bytes());
+        of_folder(&self.program, new.as_str(), "could not be written", made)
+    }
+
     /// Makes a list of it, and sees that it lasts.
     pub fn put_list(&self, name: &str, lines: &str) -> Result<(), Status> {
-        let text = sealed(self.program.alloc(), lines)?;
-        let new = format!(in self.program.alloc(); "{}/{name}.new", self.path)?;
-        let made = write_whole(&self.program, new.as_str(), text.as_bytes());
-        let file = of_folder(&self.program, new.as_str(), "could not be written", made)?;
+        let file = self.new_lines(name, lines)?;
         self.sync_new(&file, name)?;
         self.put(name)
     }
@@ -171,7 +178,7 @@ impl Folder {
     {
         let path = self.path_of(AREA)?;
         let (area, _) = own_file(&self.program, path.as_str(), false, "could not be opened")?;
-        let new = self.path_of(STATE_NEW)?;
+        let new = self.path_of_new(STATE)?;
         let front = match &self.front {
             Some(front) => Front::Given(front),
             None => Front::OfFile(&area, 1 + pages_for(slots)),
@@ -197,7 +204,7 @@ impl Folder {
 
     /// Sees that the bytes of the file that was made for a name last.
     fn sync_new(&self, file: &File, name: &str) -> Result<(), Status> {
-        let new = format!(in self.program.alloc(); "{}/{name}.new", self.path)?;
+        let new = self.path_of_new(name)?;
         of_folder(
             &self.program,
             new.as_str(),
@@ -218,8 +225,7 @@ impl Folder {
 
     /// Gives the file that was made for a name this name.
     fn rename_to(&self, name: &str) -> Result<(), Status> {
-        let new = format!(in self.program.alloc(); "{}/{name}.new", self.path)?;
-        let path = self.path_of(name)?;
+        let (new, path) = (self.path_of_new(name)?, self.path_of(name)?);
         let renamed = fs::rename(&self.program.rt, new.as_str(), path.as_str());
         of_folder(&self.program, new.as_str(), "could not be renamed", renamed)
     }
@@ -262,11 +268,7 @@ impl StateFolder<Status> for Folder {
     }
 
     fn write_marker(&mut self, lines: &str) -> Result<(), Status> {
-        let text = sealed(self.program.alloc(), lines)?;
-        let new = format!(in self.program.alloc(); "{}/{MARKER}.new", self.path)?;
-        let made = write_whole(&self.program, new.as_str(), text.as_bytes());
-        let file = of_folder(&self.program, new.as_str(), "could not be written", made)?;
-        self.aside = Some(file);
+        self.aside = Some(self.new_lines(MARKER, lines)?);
         Ok(())
     }
 

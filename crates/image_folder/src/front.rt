@@ -89,6 +89,14 @@ fn push_number(front: &mut Vec<u8>, number: u32) -> Result<(), AllocError> {
     front.extend_from_slice(&word)
 }
 
+/// Appends numbers of four bytes each.
+fn push_all(front: &mut Vec<u8>, numbers: &[u32]) -> Result<(), AllocError> {
+    for number in numbers {
+        push_number(front, *number)?;
+    }
+    Ok(())
+}
+
 /// A count as a number of four bytes.
 fn number_of(count: usize) -> u32 {
     u32::try_from(count).unwrap_or(u32::MAX)
@@ -99,24 +107,24 @@ fn pad(front: &mut Vec<u8>, blocks: usize) -> Result<(), AllocError> {
     front.resize(blocks.saturating_mul(BLOCK), 0)
 }
 
+/// Appends the header of an area with these rows, and the blocks of the volumes of a catalog.
+fn push_header(front: &mut Vec<u8>, catalog: &Catalog, rows: &[Row]) -> Result<(), AllocError> {
+    let (slots, used) = (rows.len(), rows.iter().filter(|row| row.set != 0).count());
+    let volumes = catalog.volumes();
+    front.extend_from_slice(LETTERS.as_slice())?;
+    push_all(front, &[LAYOUT, number_of(slots), number_of(used), volumes])?;
+    for volume in 0..volumes {
+        push_number(front, catalog.blocks(volume))?;
+    }
+    pad(front, 1)
+}
+
 /// The front of an area: the header with the blocks of the volumes of a catalog, and a row for each slot.
 pub fn front_of(alloc: Global, catalog: &Catalog, rows: &[Row]) -> Result<Vec<u8>, AllocError> {
-    let used = rows.iter().filter(|row| row.set != 0).count();
     let mut front = Vec::new(alloc);
-    front.extend_from_slice(LETTERS.as_slice())?;
-    let counts = [number_of(rows.len()), number_of(used), catalog.volumes()];
-    push_number(&mut front, LAYOUT)?;
-    for number in counts {
-        push_number(&mut front, number)?;
-    }
-    for volume in 0..catalog.volumes() {
-        push_number(&mut front, catalog.blocks(volume))?;
-    }
-    pad(&mut front, 1)?;
+    push_header(&mut front, catalog, rows)?;
     for row in rows {
-        for number in [row.set, row.block, row.volume, 0] {
-            push_number(&mut front, number)?;
-        }
+        push_all(&mut front, &[row.set, row.block, row.volume, 0])?;
     }
     pad(&mut front, rows.len().div_ceil(ROWS).saturating_add(1))?;
     Ok(front)

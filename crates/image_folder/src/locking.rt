@@ -28,21 +28,32 @@ impl Folder {
     pub fn open(program: &Program, path: &str, way: Way, wait: u32) -> Result<Folder, Status> {
         check_state(program, path)?;
         let mut folder = Folder::hold(program, path)?;
-        for _time in 0..u64::from(wait) * 10 {
-            if !matches!(folder.try_lock(way), Err(TryLockError::WouldBlock)) {
+        folder.wait(way, wait);
+        folder.lock_or_read(way)?;
+        Ok(folder)
+    }
+
+    /// Waits so many seconds for the lock, while another process has it.
+    fn wait(&self, way: Way, seconds: u32) {
+        for _time in 0..u64::from(seconds) * 10 {
+            if !matches!(self.try_lock(way), Err(TryLockError::WouldBlock)) {
                 break;
             }
-            thread::sleep(&program.rt, Duration::from_millis(PAUSE));
+            thread::sleep(&self.program.rt, Duration::from_millis(PAUSE));
         }
-        match (way, folder.try_lock(way)) {
+    }
+
+    /// Locks it. One that another process has may be read beside it: then its state is opened.
+    fn lock_or_read(&mut self, way: Way) -> Result<(), Status> {
+        match (way, self.try_lock(way)) {
             (Way::Beside, Err(TryLockError::WouldBlock)) => {
-                let path = folder.path_of(STATE)?;
-                let (state, _) = own_file(program, path.as_str(), false, "could not be opened")?;
-                folder.beside = Some(state);
+                let (program, path) = (self.program, self.path_of(STATE)?);
+                let (state, _) = own_file(&program, path.as_str(), false, "could not be opened")?;
+                self.beside = Some(state);
+                Ok(())
             }
-            (_, locked) => folder.check_lock(locked)?,
+            (_, locked) => self.check_lock(locked),
         }
-        Ok(folder)
     }
 
     /// Whether another process may write meanwhile.

@@ -282,11 +282,16 @@ fn more_blocks(
     shape.commit(folder)
 }
 
+/// Gives a file so many blocks, in a folder that was opened.
+fn grow_to(opened: Opened, name: &str, volumes: &[u32], blocks: u32) -> Result<(), Status> {
+    let (mut folder, mut shape) = Shape::of(opened)?;
+    let done = more_blocks(&mut folder, &mut shape, name, volumes, blocks);
+    shape.end(&folder.program, done)
+}
+
 /// `grow F NAME=BLOCKS`: a file gets so many blocks.
 pub fn grow_volume(opened: Opened, name: &str, blocks: u32) -> Result<(), Status> {
     let (program, volumes) = (opened.folder.program, opened.parts_of(name)?);
-    let (mut folder, mut shape) = Shape::of(opened)?;
-    let done = more_blocks(&mut folder, &mut shape, name, &volumes, blocks);
-    shape.end(&program, done)?;
+    grow_to(opened, name, &volumes, blocks)?;
     say(&program, format_args!("volume {name} blocks {blocks}\n"))
 }

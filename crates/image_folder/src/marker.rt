@@ -107,15 +107,23 @@ pub fn line_of_parts(
     format!(in alloc; "{word} {name} {parts}\n")
 }
 
+/// Whether the call that a line is has volumes in transit, if it is one that may leave a marker.
+fn has_names(line: &str) -> Option<bool> {
+    match line {
+        "cut" | "delete" | "grow" => return Some(false),
+        "update" | "revert" => return Some(true),
+        _ => {}
+    }
+    named_in(line)?;
+    Some(false)
+}
+
 /// Whether lines are a call that may leave a marker, and the volumes of the catalog that it has in transit: some, or none for one that leaves
 /// all volumes as they are.
 fn has_form(lines: &str, catalog: &Catalog) -> bool {
     let mut names = lines.lines();
-    let has_some = match names.next() {
-        Some("cut" | "delete" | "grow") => false,
-        Some("update" | "revert") => true,
-        Some(line) if named_in(line).is_some() => false,
-        _ => return false,
+    let Some(has_some) = has_names(names.next().unwrap_or("")) else {
+        return false;
     };
     let mut count = 0u32;
     for name in names {

@@ -44,16 +44,21 @@ pub struct Opened {
     pub least: u32,
 }
 
+/// Says the failed call of an area, if it is known.
+fn fault_of_area(program: &Program, area: Option<StoreDevice>) -> Status {
+    match area {
+        Some(area) => fault_of(program, area).unwrap_or(Status::DeviceFault),
+        None => Status::DeviceFault,
+    }
+}
+
 /// Says why devices are no store. Where there are too few, of each that is not there a line was printed.
 fn refusal(folder: &Folder, refused: Refused<StoreDevice>) -> Status {
     let Refused { fault, area } = refused;
     match fault {
         OpenFault::OutOfMemory => Status::OutOfMemory,
         OpenFault::Devices { .. } => Status::Damaged,
-        OpenFault::Area(AreaFault::Device) => match area {
-            Some(area) => fault_of(&folder.program, area).unwrap_or(Status::DeviceFault),
-            None => Status::DeviceFault,
-        },
+        OpenFault::Area(AreaFault::Device) => fault_of_area(&folder.program, area),
         fault => ended!(folder.program, Damaged; "{}/{STATE}: {fault}", folder.path),
     }
 }
@@ -80,15 +85,24 @@ fn store_of(opening: Opening<'_>) -> Result<Files, Status> {
     take_up(opening.folder, devices, area, &opening.state.head)
 }
 
-/// Says the first device that failed; a block with another sum comes first.
-pub fn first_fault(program: &Program, devices: Vec<StoreDevice>, area: StoreDevice) -> Status {
-    for device in &devices {
+/// Says the first block of devices and their area with another sum, if there is one.
+fn say_first_other(
+    program: &Program,
+    devices: &[StoreDevice],
+    area: &StoreDevice,
+) -> Option<Status> {
+    for device in devices {
         if let Some(index) = device.other_sum() {
-            return say_other(program, device, index, &devices);
+            return Some(say_other(program, device, index, devices));
         }
     }
-    if let Some(index) = area.other_sum() {
-        return say_other(program, &area, index, &devices);
+    Some(say_other(program, area, area.other_sum()?, devices))
+}
+
+/// Says the first device that failed; a block with another sum comes first.
+pub fn first_fault(program: &Program, devices: Vec<StoreDevice>, area: StoreDevice) -> Status {
+    if let Some(status) = say_first_other(program, &devices, &area) {
+        return status;
     }
     for device in devices {
         if let Some(status) = fault_of(program, device) {
@@ -133,24 +147,47 @@ fn table_of(program: &Program, state: &State) -> Result<SumTable, Status> {
     Ok(table)
 }
 
-/// Opens a folder. For one that another process has it waits so many seconds.
-pub fn open(program: &Program, path: &str, way: Way, wait: u32) -> Result<Opened, Status> {
-    let mut folder = Folder::open(program, path, way, wait)?;
-    let state = State::read(&folder)?;
-    let marker = match folder.small(MARKER)? {
-        Some(bytes) => Some(Marker::of(program.alloc(), &bytes, state.head.catalog())?),
-        None => None,
-    };
+/// The marker that a call left in a folder of this state which did not end.
+fn marker_in(folder: &Folder, state: &State) -> Result<Option<Marker>, Status> {
+    let (alloc, catalog) = (folder.program.alloc(), state.head.catalog());
+    match folder.small(MARKER)? {
+        Some(bytes) => Ok(Some(Marker::of(alloc, &bytes, catalog)?)),
+        None => Ok(None),
+    }
+}
+
+/// Clears away what a call left which did not end, and gives a folder its table of sums.
+fn begin_writing(
+    folder: &mut Folder,
+    state: &State,
+    marker: Option<&Marker>,
+) -> Result<(), Status> {
+    clear_left(folder, marker, state.head.catalog())?;
+    let table = table_of(&folder.program, state)?;
+    folder.sums = Some(Arc::new(folder.program.alloc(), table)?);
+    Ok(())
+}
+
+/// The store of a folder, and its marker.
+fn found_in(folder: &mut Folder, way: Way) -> Result<(Files, Option<Marker>), Status> {
+    let state = State::read(folder)?;
+    let marker = marker_in(folder, &state)?;
     if let Way::Writing = way {
-        clear_left(&folder, marker.as_ref(), state.head.catalog())?;
-        folder.sums = Some(Arc::new(program.alloc(), table_of(program, &state)?)?);
+        begin_writing(folder, &state, marker.as_ref())?;
     }
     let store = store_of(Opening {
-        folder: &folder,
+        folder,
         state: &state,
         way,
         marker: marker.as_ref(),
     })?;
+    Ok((store, marker))
+}
+
+/// Opens a folder. For one that another process has it waits so many seconds.
+pub fn open(program: &Program, path: &str, way: Way, wait: u32) -> Result<Opened, Status> {
+    let mut folder = Folder::open(program, path, way, wait)?;
+    let (store, marker) = found_in(&mut folder, way)?;
     Ok(Opened {
         folder,
         store,
@@ -163,6 +200,12 @@ pub fn open(program: &Program, path: &str, way: Way, wait: u32) -> Result<Opened
 }
 
 impl Opened {
+    /// The folder and the store.
+    pub(crate) fn apart(self) -> (Folder, Files) {
+        let Opened { folder, store, .. } = self;
+        (folder, store)
+    }
+
     /// Whether the present contents of a volume are in transit, by the marker that was found.
     pub fn is_in_transit(&self, volume: u32) -> bool
         requires { volume < length self.now.store.group.area.volumes }
@@ -294,25 +337,29 @@ impl Opened {
             .note_date(&standing, set, note, sources.as_str())
     }
 
+    /// Ends what a call did: what it changed lasts and the marker is gone.
+    fn settle_end(&mut self, done: Result<(), Status>) -> Result<(), Status> {
+        match done {
+            Ok(()) if self.is_marked => {
+                end_marked(&mut self.folder, &mut self.store, self.is_torn)
+            }
+            Ok(()) | Err(Status::DeviceFault) => self.folder.end_beside().and(done),
+            done => done,
+        }
+    }
+
+    /// Says the device that failed, if one did.
+    fn say_fault(self, status: Status) -> Status {
+        let (program, store) = (self.folder.program, self.store);
+        take_apart(&program, store, status)
+    }
+
     /// Ends a call: what it changed lasts and the marker is gone before anything is printed.
     pub fn end(self, done: Result<(), Status>) -> Result<(), Status> {
-        let Opened {
-            mut folder,
-            mut store,
-            text,
-            is_marked,
-            is_torn,
-            ..
-        } = self;
-        let program = folder.program;
-        let ended = match done {
-            Ok(()) if is_marked => end_marked(&mut folder, &mut store, is_torn),
-            Ok(()) | Err(Status::DeviceFault) => folder.end_beside().and(done),
-            done => done,
-        };
-        match ended {
-            Ok(()) => say(&program, text.as_str()),
-            Err(status) => Err(take_apart(&program, store, status)),
+        let mut opened = self;
+        match opened.settle_end(done) {
+            Ok(()) => say(&opened.folder.program, opened.text.as_str()),
+            Err(status) => Err(opened.say_fault(status)),
         }
     }
 }

@@ -5,7 +5,7 @@ use crate::device::{StoreDevice, SumTable};
 use crate::folder::Folder;
 use crate::front::{front_of, rows_of};
 use crate::left::remove_file;
-use crate::opened::{Opened, first_fault};
+use crate::opened::{Files, Opened, first_fault};
 use crate::program::Program;
 use crate::state::{Row, State, blocks_in};
 use crate::status::Status;
@@ -32,39 +32,64 @@ pub struct Shape {
     pub gone: Vec<String>,
 }
 
-/// What a shape begins with: the state, what each slot has, and the sums.
-fn begun_of(opened: &Opened) -> Result<(State, Vec<Row>, Arc<SumTable, Global>), Status> {
+/// What a shape begins with: what the state has, what each slot has, and the sums.
+#[derive(Drop)]
+struct Begun {
+    head: Head,
+    rows: Vec<Row>,
+    slots: u32,
+    front: u32,
+    sums: Arc<SumTable, Global>,
+}
+
+/// The same, of a folder that was opened.
+fn begun_of(opened: &Opened) -> Result<Begun, Status> {
     opened.check_transit(&[])?;
     let Some(sums) = opened.folder.table()? else {
         return Err(Status::DeviceFault);
     };
     let state = State::read(&opened.folder)?;
     let rows = rows_of(opened.folder.program.alloc(), &state)?;
-    Ok((state, rows, sums))
+    let (slots, front) = (state.slots(), state.front_blocks);
+    let State { head, .. } = state;
+    Ok(Begun {
+        head,
+        rows,
+        slots,
+        front,
+        sums,
+    })
 }
 
 impl Shape {
     /// A folder as it is, which was opened to be written, and in which no volume is in transit.
     pub fn of(opened: Opened) -> Result<(Folder, Shape), Status> {
-        let (state, rows, sums) = begun_of(&opened)?;
-        let alloc = opened.folder.program.alloc();
-        let (slots, front) = (state.slots(), state.front_blocks);
-        let State { head, .. } = state;
-        let Opened { folder, store, .. } = opened;
+        let begun = begun_of(&opened)?;
+        let (folder, store) = opened.apart();
+        let gone = Vec::new(folder.program.alloc());
+        Ok((folder, Shape::from(begun, store, gone)))
+    }
+
+    /// That which begins so, of a store, and the files that go.
+    fn from(begun: Begun, store: Files, gone: Vec<String>) -> Shape {
+        let Begun {
+            head,
+            rows,
+            slots,
+            front,
+            sums,
+        } = begun;
         let (devices, area) = store.into_devices();
-        Ok((
-            folder,
-            Shape {
-                head,
-                rows,
-                slots,
-                front,
-                sums,
-                devices,
-                area,
-                gone: Vec::new(alloc),
-            },
-        ))
+        Shape {
+            head,
+            rows,
+            slots,
+            front,
+            sums,
+            devices,
+            area,
+            gone,
+        }
     }
 
     /// Whether a slot is in use.

@@ -3,7 +3,7 @@
 use crate::device::{Lost, StoreDevice};
 use crate::ended::by_device;
 use crate::program::Program;
-use crate::state::row_in;
+use crate::state::{Row, row_in};
 use crate::status::Status;
 use block_data::BLOCK;
 
@@ -18,6 +18,12 @@ fn say_block(program: &Program, device: &StoreDevice, index: u32) -> Status {
     ended!(*program, Damaged; "{path}: block {index}: its sum is another than is kept; the volume shows it{more}")
 }
 
+/// Says that a slot with this row has another sum, of the volume with this path.
+fn say_row(program: &Program, path: &str, slot: usize, row: Row, of: &str) -> Status {
+    let Row { set, block, .. } = row;
+    ended!(*program, Damaged; "{path}: slot {slot}: its sum is another than is kept; it has block {block} of {of} for set {set}")
+}
+
 /// Says that a block of the area has another sum: a slot, which has a block of one of these volumes.
 fn say_slot(program: &Program, area: &StoreDevice, index: u32, volumes: &[StoreDevice]) -> Status {
     let (path, front) = (area.path(), area.front().len() / BLOCK);
@@ -29,7 +35,7 @@ fn say_slot(program: &Program, area: &StoreDevice, index: u32, volumes: &[StoreD
         Some(volume) => volume.path(),
         None => "",
     };
-    ended!(*program, Damaged; "{path}: slot {slot}: its sum is another than is kept; it has block {} of {of} for set {}", row.block, row.set)
+    say_row(program, path, slot, row, of)
 }
 
 /// Says that a block of a device has another sum. The area is that of these volumes.

@@ -51,6 +51,16 @@ fn add_rest(line: &str, brought: &[Brought<'_>], new: &mut String) -> Result<(),
     }
 }
 
+/// Adds a line of each file of these volumes that was there.
+fn add_sources(brought: &[Brought<'_>], new: &mut String) -> Result<(), Status> {
+    for Brought { name, source } in brought {
+        if let Some(source) = source {
+            write!(new, "={name} {source}\n")?;
+        }
+    }
+    Ok(())
+}
+
 /// Adds a line of the names of these volumes, and one of each file.
 fn add_lines(brought: &[Brought<'_>], new: &mut String) -> Result<(), Status> {
     for (place, of) in brought.iter().enumerate() {
@@ -60,12 +70,7 @@ fn add_lines(brought: &[Brought<'_>], new: &mut String) -> Result<(), Status> {
         new.push_str(of.name)?;
     }
     new.push('\n')?;
-    for Brought { name, source } in brought {
-        if let Some(source) = source {
-            write!(new, "={name} {source}\n")?;
-        }
-    }
-    Ok(())
+    add_sources(brought, new)
 }
 
 /// Whether this is a line of names, or one of a file.

@@ -9,6 +9,7 @@ use crate::naming::{check_once, name_in};
 use crate::opened::Opened;
 use crate::pair::Pair;
 use crate::parts::{Part, blocks_of_file};
+use crate::program::Program;
 use crate::status::Status;
 use crate::together::Brought;
 
@@ -49,6 +50,30 @@ fn blocks_in_all(opened: &Opened, volumes: &[u32]) -> u32 {
     }
 }
 
+/// Opens a file, which may be missing if that is allowed.
+fn input_of<'a>(program: &Program, file: &'a str, may_lack: bool) -> Result<FileInput<'a>, Status> {
+    if may_lack {
+        return FileInput::open_or_none(program, file);
+    }
+    FileInput::open(program, file)
+}
+
+/// Fits the file that is opened for a volume to that: it keeps the part of this number of the file of this name, which these volumes keep.
+fn fit_part<'a>(
+    opened: &Opened,
+    name: &'a str,
+    volumes: &[u32],
+    (number, volume): (usize, u32),
+    input: &mut FileInput<'a>,
+) -> Result<(), Status> {
+    input.fit(name, blocks_in_all(opened, volumes))?;
+    if volume < opened.store.volumes() {
+        let part = Part::of(number, volumes.len());
+        input.take_part(part, opened.store.blocks(volume));
+    }
+    Ok(())
+}
+
 /// Adds the jobs of the volumes of a name, which are brought to a file: one of each, which reads its part. A file that is not there may be missing.
 pub fn add_jobs<'a>(
     opened: &Opened,
@@ -59,19 +84,11 @@ pub fn add_jobs<'a>(
 ) -> Result<(), Status> {
     let (program, volumes) = (opened.folder.program, opened.parts_of(name)?);
     for (number, volume) in volumes.iter().enumerate() {
-        let mut input = if may_lack {
-            FileInput::open_or_none(&program, file)?
-        } else {
-            FileInput::open(&program, file)?
-        };
+        let mut input = input_of(&program, file, may_lack)?;
         if number == 0 {
             check_own(opened, file, &input)?;
         }
-        input.fit(name, blocks_in_all(opened, &volumes))?;
-        if *volume < opened.store.volumes() {
-            let part = Part::of(number, volumes.len());
-            input.take_part(part, opened.store.blocks(*volume));
-        }
+        fit_part(opened, name, &volumes, (number, *volume), &mut input)?;
         jobs.push(Job::new(program.alloc(), *volume, input)?)?;
     }
     Ok(())

@@ -77,17 +77,14 @@ pub fn check_count(program: &Program, shape: &Shape, more: usize) -> Result<(), 
     Ok(())
 }
 
-/// Adds the entry of a volume of so many blocks.
-fn add_entry(program: &Program, shape: &mut Shape, name: &str, blocks: u32) -> Result<(), Status> {
-    check_blocks(program, name, blocks)?;
-    if shape.head.catalog().volumes() >= MOST_VOLUMES {
+/// Adds the entry of the volume of an input.
+fn add_entry(program: &Program, shape: &mut Shape, input: &FileInput<'_>) -> Result<(), Status> {
+    let name = part_name(program.alloc(), input.name.as_bytes(), input.part.number)?;
+    check_blocks(program, text_of(&name), input.blocks)?;
+    if shape.head.catalog().volumes() >= MOST_VOLUMES || !is_name(name.bytes()) {
         return Err(Status::DeviceFault);
     }
-    let bytes = name.as_bytes();
-    if !is_name(bytes) {
-        return Err(Status::DeviceFault);
-    }
-    Ok(shape.head.add(program.alloc(), bytes, blocks)?)
+    Ok(shape.head.add(program.alloc(), name.bytes(), input.blocks)?)
 }
 
 /// Copies a block of a file that was named, unless it is zeros, and keeps its sum at a place.
@@ -109,24 +106,33 @@ fn copy_block(
     file.put(index, block.bytes())
 }
 
-/// Makes the file of a new volume of a file that was named, or of none.
-fn fill(
+/// Copies the blocks of a file that was named, or of none.
+fn copy_all(
     input: &mut FileInput<'_>,
-    path: String,
+    file: &Longer,
     sums: &SumTable,
     first: usize,
 ) -> Result<(), Status> {
-    let (program, blocks) = (input.program, input.blocks);
-    let file = Longer::new(&program, path, blocks)?;
-    let mut block = BlockBuf::zeroed(program.alloc())?;
-    for index in 0..blocks {
+    let mut block = BlockBuf::zeroed(input.program.alloc())?;
+    for index in 0..input.blocks {
         if input.is_none() {
             break;
         }
         let place = first.saturating_add(index as usize);
-        copy_block(input, &file, index, &mut block, (sums, place))?;
+        copy_block(input, file, index, &mut block, (sums, place))?;
     }
-    input.end(None, "")?;
+    input.end(None, "")
+}
+
+/// Makes the file of a new volume of a file that was named, or of none.
+fn fill(
+    folder: &Folder,
+    input: &mut FileInput<'_>,
+    sums: &SumTable,
+    first: usize,
+) -> Result<(), Status> {
+    let file = Longer::new(&folder.program, path_of(folder, input)?, input.blocks)?;
+    copy_all(input, &file, sums, first)?;
     file.sync()
 }
 
@@ -149,11 +155,18 @@ pub fn add_entries(
     let first = blocks_in(shape.head.catalog());
     let sums = shape.parted_sums(program, first, blocks_of_all(inputs) as usize)?;
     for input in inputs {
-        let name = part_name(program.alloc(), input.name.as_bytes(), input.part.number)?;
-        add_entry(program, shape, text_of(&name), input.blocks)?;
+        add_entry(program, shape, input)?;
     }
     shape.sums = Arc::new(program.alloc(), sums)?;
     Ok(first)
+}
+
+/// That no file of new volumes changed since it was opened.
+fn check_all(inputs: &mut [FileInput<'_>]) -> Result<(), Status> {
+    for input in inputs.iter_mut() {
+        input.check()?;
+    }
+    Ok(())
 }
 
 /// Makes the files of new volumes. What is read is of one moment.
@@ -165,14 +178,10 @@ pub fn fill_all(
 ) -> Result<(), Status> {
     let mut first = first;
     for input in inputs.iter_mut() {
-        let path = path_of(folder, input)?;
-        fill(input, path, &shape.sums, first)?;
+        fill(folder, input, &shape.sums, first)?;
         first = first.saturating_add(input.blocks as usize);
     }
-    for input in inputs.iter_mut() {
-        input.check()?;
-    }
-    Ok(())
+    check_all(inputs)
 }
 
 /// Takes the files of new volumes away, and the marker if none is left.
@@ -211,7 +220,46 @@ fn add_volumes(
     done
 }
 
-/// Tries to add the file of a pair. At the last time it is said if the file changed. How many blocks it has is answered.
+/// Adds the volumes of a pair, by the inputs, which are none yet. At the last time it is said if the file changed.
+fn add_pair<'a>(
+    folder: &mut Folder,
+    shape: &mut Shape,
+    pair: Pair<'a>,
+    is_last: bool,
+    inputs: &mut Vec<FileInput<'a>>,
+) -> Result<(), Status> {
+    *inputs = new_inputs(&folder.program, shape, pair)?;
+    let done = add_volumes(folder, shape, pair.name, inputs);
+    if is_last {
+        for input in inputs.iter() {
+            input.say_changed("");
+        }
+    }
+    done
+}
+
+/// Adds the volumes of a pair to a folder that was opened.
+fn add_to<'a>(
+    opened: Opened,
+    pair: Pair<'a>,
+    is_last: bool,
+    inputs: &mut Vec<FileInput<'a>>,
+) -> Result<(), Status> {
+    let (mut folder, mut shape) = Shape::of(opened)?;
+    let done = add_pair(&mut folder, &mut shape, pair, is_last, inputs);
+    shape.end(&folder.program, done)
+}
+
+/// How many blocks the file has of these inputs, of which that is said that is not seen of it.
+fn blocks_seen(inputs: &[FileInput<'_>]) -> u32 {
+    if let Some(input) = inputs.first() {
+        input.say_unseen();
+    }
+    let last = inputs.last().map(|input| input.blocks).unwrap_or(0);
+    blocks_of_file(inputs.len(), last)
+}
+
+/// Tries to add the file of a pair. How many blocks it has is answered.
 fn add_once(
     program: &Program,
     opened: Opened,
@@ -219,26 +267,9 @@ fn add_once(
     is_last: bool,
 ) -> Result<u32, Status> {
     check_new(&opened, pair)?;
-    let (mut folder, mut shape) = Shape::of(opened)?;
     let mut inputs = Vec::new(program.alloc());
-    let done = match new_inputs(program, &shape, pair) {
-        Ok(new) => {
-            inputs = new;
-            add_volumes(&mut folder, &mut shape, pair.name, &mut inputs)
-        }
-        Err(status) => Err(status),
-    };
-    if is_last {
-        for input in &inputs {
-            input.say_changed("");
-        }
-    }
-    shape.end(program, done)?;
-    if let Some(input) = inputs.first() {
-        input.say_unseen();
-    }
-    let last = inputs.last().map(|input| input.blocks).unwrap_or(0);
-    Ok(blocks_of_file(inputs.len(), last))
+    add_to(opened, pair, is_last, &mut inputs)?;
+    Ok(blocks_seen(&inputs))
 }
 
 /// `add F NAME=FILE`: a folder gets a volume for a file. While the file changes it is tried so often.
@@ -312,15 +343,26 @@ fn take_away(
     shape.commit(folder)
 }
 
-/// `remove F NAME`: the volumes of a name go, and their images.
-pub fn remove(opened: Opened, name: &str) -> Result<(), Status> {
-    let (program, volume) = (opened.folder.program, opened.place_of(name)?);
-    let images = opened.store.images(volume).len();
+/// How many images the file of a name has, and its volumes by falling numbers.
+fn falling_volumes(opened: &Opened, name: &str) -> Result<(usize, Vec<u32>), Status> {
+    let images = opened.store.images(opened.place_of(name)?).len();
     let mut volumes = opened.parts_of(name)?;
     volumes.sort()?;
     volumes.reverse();
+    Ok((images, volumes))
+}
+
+/// Takes the volumes of a name away from a folder that was opened.
+fn take_from(opened: Opened, volumes: &[u32], name: &str) -> Result<(), Status> {
     let (mut folder, mut shape) = Shape::of(opened)?;
-    let done = take_away(&mut folder, &mut shape, &volumes, name);
-    shape.end(&program, done)?;
+    let done = take_away(&mut folder, &mut shape, volumes, name);
+    shape.end(&folder.program, done)
+}
+
+/// `remove F NAME`: the volumes of a name go, and their images.
+pub fn remove(opened: Opened, name: &str) -> Result<(), Status> {
+    let (images, volumes) = falling_volumes(&opened, name)?;
+    let program = opened.folder.program;
+    take_from(opened, &volumes, name)?;
     say(&program, format_args!("removed {name}: {images}\n"))
 }
