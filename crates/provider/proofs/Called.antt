@@ -1,9 +1,8 @@
 -- The group of a volume was called, and the others are as they were, also by counts of devices that say nothing of faults.
-use Rattle.std.proofs.Common.{◌≡◌, ℕ, zero, suc, ◌<◌, List, [], ◌∷◌, length, refl, ap, sym, ◌∙◌, subst, arith, Bool, true, false, Option, Some, All, map, rules}
-use Rattle.std.proofs.Common.{slice_get, slice_set, inr}
+use Rattle.std.proofs.Common.{◌≡◌, ℕ, zero, suc, ◌<◌, List, [], ◌∷◌, length, refl, ap, sym, ◌∙◌, subst, arith, Bool, true, false, Option, Some, All, map}
+use Rattle.std.proofs.Common.{slice_get, slice_set, ◌≤◌, inr}
 use Rattle.std.proofs.lemmas.List.{length-map}
 use Rattle.std.specs.Prelude.{Result, Ok, Err, OnOk, IfErr}
-use Rattle.std.proofs.lemmas.Grind.{common_steps}
 use Rattle.cow_volume.specs.Calls.{StopsAfter as StopsInGroup}
 use Rattle.cow_volume.specs.declared.image_fault.ImageFault.TheVariants as image
 use Rattle.cow_volume.specs.declared.revert_fault.RevertFault.TheVariants.{NoSuchImage as NoImage}
@@ -41,7 +40,9 @@ module _ {D : Type 0} (count : D → ℕ) {s : Plan} {old new : List (GroupValue
   pub rose_of : (cause : Cause) → DeviceRose count c.found.within c.found.here c.after cause → HasCause count s v (Some cause) old new
   rose_of NoSuchBlock rose = rose
   rose_of Volume rose = rose_volume count s old new v c.found.group c.found.within c.found.here c.after c.found.has c.found.place c.found.at c.is rose
-  rose_of Area rose = grind (arith, common_steps, area_of_place, rose_area)
+  rose_of Area rose =
+      subst (λ (n : ℕ). RoseAlone n (counts_of count old) (counts_of count new)) (sym (area_of_place s v c.found.group c.found.within c.found.place))
+      (rose_area count s old new c.found.group c.found.here c.after c.found.has c.found.at c.is rose)
 
   pub cause_of : {T : Type 0} (result : Result T Cause) → OnOk result (IsUnfailed count c.found.here c.after) → IfErr result (DeviceRose count c.found.within c.found.here c.after)
       → HasCause count s v (fault_of result) old new
@@ -82,7 +83,8 @@ module _ {D : Type 0} (device : Ghosts D) {s : Plan} {old new : List (GroupValue
   pub changed : (f : History → History) (hs : List History) → IsKeptGroup device c.found.here c.after → AreGroups device.told s old hs
       → StandsFor device.told c.after (changed_at c.found.within f (own c.found hs))
       → AreGroups device.told s new (change_at v f hs)
-  changed f hs kept are stands = search (rules, changes)
+  changed f hs kept are stands =
+      changes device.told s old new v c.found.group c.found.within c.found.here c.after hs f c.found.place c.found.at c.is kept.volumes kept.slots are stands
 
   pub unchanged : (hs : List History) → IsKeptGroup device c.found.here c.after → AreGroups device.told s old hs → StandsFor device.told c.after (own c.found hs) → AreGroups device.told s new hs
   unchanged hs kept are stands = stays device.told s old new c.found.group c.found.here c.after hs c.found.at c.is kept.volumes kept.slots are stands
@@ -244,6 +246,10 @@ rose_unsaid count (x ∷ xs) (y ∷ ys) (suc k) rose = (refl, rose_unsaid count 
 -- what a group says of where it stops
 pub stops_of : {D : Type 0} (told : D → Option (List (List ℕ))) {s : Plan} {old new : List (GroupValue D)} {v : ℕ} (c : Called s old new v) (set k : ℕ) (result : Result Unit RevertFault)
     → StopsInGroup told c.found.here c.found.within set k result → StopsAfter told s old v set k result
-stops_of told {s = s} {v = v} c set k (Ok done) h = grind (arith, common_steps, history_here c.found, blocks_here c.found, stands_here told c.found)
+stops_of told {s = s} {v = v} c set k (Ok done) h = λ hs are p point.
+    let same = history_here c.found hs are.histories in
+    subst (λ (x : History). length (to_restore (blocks_of s v) x.writes p) ≤ k) same
+    (subst (λ (n : ℕ). length (to_restore n (group_history_at (own c.found hs) c.found.within).writes p) ≤ k) (blocks_here c.found)
+    (h (own c.found hs) p (stands_here told c.found hs are) (ap (λ (x : History). point_in set x.images) same ∙ point)))
 stops_of told c set k (Err NoImage) h = tt
 stops_of told c set k (Err (Fault restored cause)) h = h

@@ -1,13 +1,12 @@
 -- The images of a set go from the volumes of a group, and of all groups; and whether an image stands.
 use Rattle.std.proofs.Common.{◌≡◌, ℕ, ◌==◌, List, [], ◌∷◌, refl, ap, sym, ◌∙◌, Bool, Option, Some, ◌||◌, is_some, if◌then◌else◌, arith, zero, suc, ◌+◌, ◌<◌}
 use Rattle.std.proofs.Common.{◌≤◌, length, subst, true, false, map, take, not, ◌++◌, ◌*◌, slice_get, slice_set}
-use Rattle.std.proofs.lemmas.Grind.{common_steps}
 use Rattle.vss_model.proofs.Words.{number_is}
 use Rattle.provider.specs.Words.{history_at as group_history_at}
 use Rattle.provider.proofs.Flat.{devices_same}
 use Rattle.provider.proofs.Kept.{kept_then, keeps}
 use Rattle.provider.proofs.Words.{GroupValue, HasImage, IfStandFor, Image, Plan, history_at, is_among, point_in, sets_of, Ghosts, History, IsGroupDrop}
-use Rattle.provider.proofs.Words.{IsKeptGroup, IsWithout, StandsFor, changed_at, count_images, dropped, has_image, place_at, sets_at}
+use Rattle.provider.proofs.Words.{IsKeptGroup, IsWithout, StandsFor, changed_at, count_images, dropped, has_image, history_in, place_at, sets_at, sets_in}
 use Rattle.provider.proofs.Words.{slice_get_inside, take-length, take_next, without_set, AreGroups, AreWithout, VolumeRow, devices_of, length-map}
 use Rattle.provider.proofs.Words.{length-slice_set, nat_tests, of_group, of_group_if, same_number, slice_get-set_other, slice_get-set_same, slice_get_within}
 use Rattle.provider.proofs.Words.{slice_set-same}
@@ -70,7 +69,12 @@ all_first n (h ∷ hs) = ap (λ (xs : List History). dropped n h ∷ xs) (all_fi
 
 pub count-append : (n : ℕ) (hs ks : List History) → count_images n (hs ++ ks) ≡ count_images n hs + count_images n ks
 count-append n [] ks = let z : count_images n ks ≡ 0 + count_images n ks = omega arith in z
-count-append n (h ∷ hs) ks = grind (arith, common_steps, count-append n hs ks)
+count-append n (h ∷ hs) ks =
+    let rest = count-append n hs ks in
+    ap (λ (m : ℕ). (if has_image n h then 1 else 0) + m) rest ∙ regroup (if has_image n h then 1 else 0) (count_images n hs) (count_images n ks)
+  where
+    regroup : (a b c : ℕ) → a + (b + c) ≡ a + b + c
+    regroup a b c = omega arith
 
 -- ## all volumes of a group
 
@@ -88,7 +92,11 @@ pub record IsDroppedTo {D : Type 0} (device : Ghosts D) (old new : GroupValue D)
 listed : {D : Type 0} (told : D → Option (List (List ℕ))) (old : GroupValue D) (u n : ℕ) (hs : List History) (b : Bool) → u < length old.area.volumes
     → StandsFor told old (dropped_first u n hs) → is_among n (sets_at old u) ≡ b
     → is_among n (sets_of (group_history_at hs u).images) ≡ b
-listed told old u n hs b within stands is = grind (arith, common_steps, place_at told old (dropped_first u n hs) u stands within, at_first u n hs)
+listed told old u n hs b within stands is =
+    let place = place_at told old (dropped_first u n hs) u stands within in
+    let here : is_among n (sets_of (group_history_at (dropped_first u n hs) u).images) ≡ b = ap (is_among n) (sym place.stands.sets_are) ∙ ap (λ (o : Option (List ℕ)). is_among n (sets_in o))
+    (sym place.sets_at) ∙ is in
+    subst (λ (h : History). is_among n (sets_of h.images) ≡ b) (at_first u n hs) here
 
 counted_more : {D : Type 0} (told : D → Option (List (List ℕ))) (first old : GroupValue D) (u n stood : ℕ) (hs : List History) (b : Bool) → u < length old.area.volumes
     → length old.area.volumes ≡ length first.area.volumes → StandsFor told first hs
@@ -96,7 +104,16 @@ counted_more : {D : Type 0} (told : D → Option (List (List ℕ))) (first old :
 counted_more told first old u n stood hs b within same stands so_far is =
     let long = stands.histories in
     let h = slice_get_inside hs u (omega (arith, within, same, long)) in
-    grind (arith, common_steps, point_among n h.0.images, take_next hs u h.0 h.1, count-append n (take u hs) (h.0 ∷ []))
+    let has : has_image n h.0 ≡ b = point_among n h.0.images ∙ ap (λ (o : Option History). is_among n (sets_of (history_in o).images)) (sym h.1) ∙ is in
+    let next : take (u + 1) hs ≡ take u hs ++ h.0 ∷ [] = take_next hs u h.0 h.1 in
+    ap (λ (m : ℕ). m + (if b then 1 else 0)) so_far
+    ∙ ap (λ (m : ℕ). count_images n (take u hs) + m) (one b h.0 has)
+    ∙ sym (count-append n (take u hs) (h.0 ∷ []))
+    ∙ ap (count_images n) (sym next)
+  where
+    one : (b : Bool) (h : History) → has_image n h ≡ b → (if b then 1 else 0) ≡ count_images n (h ∷ [])
+    one true h e = sym (ap (λ (b : Bool). (if b then 1 else 0) + 0) e)
+    one false h e = sym (ap (λ (b : Bool). (if b then 1 else 0) + 0) e)
 
 pub dropped_more : {D : Type 0} (device : Ghosts D) (first old new : GroupValue D) (u n stood : ℕ)
     → u < length old.area.volumes → IsDroppedTo device first old u n stood → IsGroupDrop device old new u n true → IsDroppedTo device first new (u + 1) n (stood + 1)
@@ -215,7 +232,11 @@ count_all n k (r ∷ rows) (h ∷ hs) long there =
 -- no more images of one set stand than there are volumes
 pub count_within : (n : ℕ) (hs : List History) → count_images n hs ≤ length hs
 count_within n [] = omega arith
-count_within n (h ∷ hs) = grind (arith, common_steps, count_within n hs)
+count_within n (h ∷ hs) = by_test (has_image n h) (count_within n hs)
+  where
+    by_test : (b : Bool) → count_images n hs ≤ length hs → (if b then 1 else 0) + count_images n hs ≤ suc (length hs)
+    by_test true e = omega arith
+    by_test false e = omega arith
 
 -- the groups below number k are without the set, of which so many stood; the others are as they were
 pub record AreWithoutTo {D : Type 0} (device : Ghosts D) (old new : List (GroupValue D)) (k n stood : ℕ) : Type 0 where

@@ -1,13 +1,13 @@
 -- The group of a volume is found among all groups, or called: what that says of the volume of the scenario.
-use Rattle.std.proofs.Common.{◌≡◌, ℕ, ◌<◌, List, length, refl, ap, sym, ◌∙◌, subst, arith, Bool, true, Option, Some, None, get_or, slice_get, is_some, IfSome, OnOk, Result}
-use Rattle.std.proofs.lemmas.Grind.{common_steps}
-use Rattle.provider.proofs.Words.{AreGroups, AtPoint, GroupValue, HasGroups, HasImage, History, IfShown, IfStandFor, IsDigestAt, IsDigestShown, IsPlaceOf, IsThere, Plan, ProviderValue}
-use Rattle.provider.proofs.Words.{StandsFor, VolumeRow, Write, and_parts, blocks_at, blocks_in, blocks_of, concat, content, contents, device_read, devices_of, history_at, is_among, is_there, of_group, one_place, place_at}
+use Rattle.std.proofs.Common.{◌≡◌, ℕ, ◌<◌, List, length, refl, ap, sym, ◌∙◌, subst, arith, Bool, true, Option, Some, None, get_or, slice_get, is_some, IfSome, IfOk, OnOk, Result, Ok, Err}
+use Rattle.provider.proofs.Words.{AreGroups, AtPoint, GroupValue, HasGroups, HasImage, History, IfShown, IfStandFor, IsDigestAt, IsDigestShown, IsPlaceOf, IsPointOf, IsThere, Plan, ProviderValue}
+use Rattle.provider.proofs.Words.{StandsFor, VolumeRow, Write, and_parts, blocks_at, blocks_in, blocks_of, concat, contents, device_read, devices_of, history_at, is_among, is_there, of_group, one_place, place_at}
 use Rattle.provider.proofs.Words.{place_in, sets_at, sets_in, sets_of, sha256, slice_get_inside, slice_get_map, told_at, told_in, used, used_by, volume_place}
+use Rattle.std.specs.Result.{result_ok}
 use Rattle.diff_area.specs.Format.{blocks_for}
 use Rattle.provider.specs.Calls.{IsDigestTold}
 use Rattle.provider.specs.Groups.{AreSized, AreFit}
-use Rattle.provider.specs.Words.{IsBytes, IsSeen, blocks_in as group_blocks_in, history_at as group_history_at}
+use Rattle.provider.specs.Words.{IsBytes, blocks_in as group_blocks_in, history_at as group_history_at}
 use Rattle.provider.proofs.InGroup.{history_of_place, group_below, group_there, within_there, blocks_are}
 use Rattle.provider.proofs.Dropped.{point_among}
 use Rattle.provider.proofs.Flat.{volume_device_at, area_device_at, area_of_place}
@@ -104,7 +104,8 @@ module _ {D : Type 0} (told : D → Option (List (List ℕ))) {s : Plan} {groups
   image_of set b is hs are = point_among set (history_at hs v).images ∙ sym (ap (is_among set) (sets_here hs are)) ∙ is
 
   pub there_of : (set : Option ℕ) (b : Bool) → is_there set (sets_at f.here f.within) ≡ b → IsThere told s groups v set b
-  there_of set b is = grind (arith, image_of)
+  there_of None b is = is
+  there_of (Some set) b is = image_of set b is
 
   pub used_of : (n : ℕ) → ((hs : List History) → StandsFor told f.here hs → n ≡ used (blocks_at f.here f.within) (group_history_at hs f.within).writes (group_history_at hs f.within).images)
       → IfStandFor told s groups (λ hs. n ≡ used (blocks_of s v) (history_at hs v).writes (history_at hs v).images)
@@ -133,7 +134,7 @@ module _ {D : Type 0} (told : D → Option (List (List ℕ))) {s : Plan} {groups
   shown_of set P is tells hs are p point =
       let t = telling tells in
       let same = history_here f hs are.histories in
-      grind (arith, common_steps, stands_here)
+      subst (λ (h : History). P h.writes p) same (is (own f hs) t.device p (stands_here hs are) t.at t.tells t.area (subst (λ (h : History). IsPointOf set h p) (sym same) point))
 
   -- of all blocks, as many as the group says are here
   pub all_shown_of : (set : Option ℕ) (P : ℕ → List Write → ℕ → Type 0) → AtPoint told f.here f.within set (P (blocks_at f.here f.within)) → IfShown told s groups v set (P (blocks_of s v))
@@ -142,15 +143,10 @@ module _ {D : Type 0} (told : D → Option (List (List ℕ))) {s : Plan} {groups
   pub digest_shown : (set : Option ℕ) (digest : List ℕ) → IsDigestAt told f.here f.within set digest → IsDigestShown told s groups v set digest
   digest_shown set digest is = all_shown_of set (λ n ws p. digest ≡ sha256 (concat (contents n ws p))) is
 
-  pub digest_told : (set : Option ℕ) (digest : Option (List ℕ)) → IfSome digest (IsDigestAt told f.here f.within set) → IfSome digest (λ d. (length d ≡ 32) × IsBytes d)
-      → IfSome digest (IsDigestTold told s groups v set)
-  digest_told set None is wide = tt
-  digest_told set (Some d) is wide = (digest_shown set d is, wide.0, wide.1)
-
--- what is seen of a block is so at the point that is shown
-pub at_seen : {D : Type 0} (told : D → Option (List (List ℕ))) (g : GroupValue D) (u : ℕ) (set : Option ℕ) (b : ℕ) (bytes : List ℕ) → IsSeen told g u set b bytes
-    → AtPoint told g u set (λ ws p. bytes ≡ content ws p b)
-at_seen told g u set b bytes seen hs d p stands at tells area end = grind arith
+  pub digest_told : {E : Type 0} (set : Option ℕ) (digest : Result (List ℕ) E) → IfOk digest (IsDigestAt told f.here f.within set) → IfOk digest (λ d. (length d ≡ 32) × IsBytes d)
+      → IfSome (result_ok digest) (IsDigestTold told s groups v set)
+  digest_told set (Err fault) is wide = tt
+  digest_told set (Ok d) is wide = (digest_shown set d is, wide.0, wide.1)
 
 pub some_map : {X : Type 0} (P Q : X → Type 0) (o : Option X) → IfSome o P → ((x : X) → P x → Q x) → IfSome o Q
 some_map x0 x1 o h f = grind arith
@@ -173,6 +169,7 @@ sized_of {D = D} told size s groups hs has are fits = record {
   areas = λ v r d e at.
       let f = found_row s groups v r has e in
       let there = area_device_at s groups f.group f.here has f.at in
+      let own : Some f.here.area.device ≡ Some d = sym there ∙ ap (slice_get (devices_of groups)) (sym (area_of_place s v f.group f.within f.place)) ∙ at in
       let is : f.here.area.device ≡ d = cc in
       sym (ap size is) ∙ (fits f.group f.here f.at).area ∙ ap blocks_for ((are.each f.group f.here f.at).slots v r e refl);
 }

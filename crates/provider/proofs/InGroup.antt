@@ -1,15 +1,14 @@
 -- The volumes of one group among all volumes: where each is, and for which histories all stand after one group was called or ended.
 use Rattle.std.proofs.Common.{◌≡◌, ℕ, zero, suc, ◌+◌, ◌==◌, List, [], ◌∷◌, length, refl, ap, sym, ◌∙◌, arith, Bool, true, false, Option, Some, map, slice_get}
 use Rattle.std.proofs.Common.{not, find, if◌then◌else◌, ◌<◌, subst, slice_set, ◌++◌, OnOk, Result, Ok, Err}
-use Rattle.std.proofs.lemmas.Grind.{common_steps}
 use Rattle.vss_model.specs.Words.{history_in}
 use Rattle.vss_model.proofs.Words.{number_is}
-use Rattle.provider.specs.Words.{placed as all_placed, history_at as group_history_at, IsSynced as IsGroupSynced}
+use Rattle.provider.specs.Words.{placed as all_placed, blocks_in as group_blocks_in, history_at as group_history_at, IsSynced as IsGroupSynced}
 use Rattle.provider.proofs.Flat.{rose_area, counts_same}
 use Rattle.provider.proofs.Kept.{kept_one, called_there}
 use Rattle.provider.proofs.Words.{History, VolumeRow, after_set, as_many_gone, blocks_in_group, change_at, changed_at, count_if, evicted_up_to, gone_up_to}
 use Rattle.provider.proofs.Words.{group_used, lacks_slot, ne_eqb, of_group, of_group_if, place_in, placed, range_with_len, same_number, unwrap_or, used}
-use Rattle.provider.proofs.Words.{GroupValue, HasGroups, IsPlaceOf, Plan, blocks_at, blocks_of, history_at}
+use Rattle.provider.proofs.Words.{GroupValue, HasGroups, IsPlaceOf, Plan, blocks_at, blocks_in as plan_blocks_in, blocks_of, history_at}
 use Rattle.provider.proofs.Words.{history_in as group_history_in, length-map, slice_get_inside, slice_get_map, slice_get_within, AreGroups, IsGroup, StandsFor}
 use Rattle.provider.proofs.Words.{slice_get-set_other, slice_get-set_same, AreLasting, AreStored, Cause, Copy, Ghosts, HasSyncCause, IsSync, IsSynced, copies}
 use Rattle.provider.proofs.Words.{copies_from, copies_of}
@@ -30,7 +29,8 @@ used_in_group g (r ∷ rows) [] = empty (of_group_if (r.group == g) r.blocks (bl
     empty : (ns : List ℕ) → 0 ≡ group_used (all_placed ns) []
     empty [] = refl
     empty (n ∷ ns) = refl
-used_in_group g (r ∷ rows) (h ∷ hs) = grind (arith, common_steps, used_if, used_in_group g rows hs)
+used_in_group g (r ∷ rows) (h ∷ hs) =
+    used_if (r.group == g) r.blocks (group_used (map (placed g) rows) hs) h (blocks_in_group g rows) (of_group g rows hs) (used_in_group g rows hs)
 
 -- ## images that go
 
@@ -46,7 +46,8 @@ gone_in_group g m (r ∷ rows) [] = empty (of_group_if (r.group == g) r.blocks (
     empty : (ns : List ℕ) → [] ≡ gone_up_to m (all_placed ns) []
     empty [] = refl
     empty (n ∷ ns) = refl
-gone_in_group g m (r ∷ rows) (h ∷ hs) = grind (arith, common_steps, gone_if, gone_in_group g m rows hs)
+gone_in_group g m (r ∷ rows) (h ∷ hs) =
+    gone_if (r.group == g) m r.blocks h (blocks_in_group g rows) (of_group g rows hs) (of_group g rows (gone_up_to m (map (placed g) rows) hs)) (gone_in_group g m rows hs)
 
 both_not : (b c : Bool) (x y : History) (xs ys : List History) → (b ≡ true → c ≡ true → ⊥) → xs ≡ ys → of_group_if c (if b then x else y) xs ≡ of_group_if c y ys
 both_not b c x y xs ys h e = grind arith
@@ -56,7 +57,9 @@ pub gone_elsewhere : (g other m : ℕ) (rows : List VolumeRow) (hs : List Histor
     → of_group other rows (gone_up_to m (map (placed g) rows) hs) ≡ of_group other rows hs
 gone_elsewhere g other m [] hs apart = refl
 gone_elsewhere g other m (r ∷ rows) [] apart = refl
-gone_elsewhere g other m (r ∷ rows) (h ∷ hs) apart = grind (arith, common_steps, both_not, number_is, gone_elsewhere g other m rows hs apart)
+gone_elsewhere g other m (r ∷ rows) (h ∷ hs) apart =
+    both_not (r.group == g) (r.group == other) (record { writes = h.writes; images = after_set m h.images }) h _ _
+    (λ e f. apart (sym (number_is r.group g e) ∙ number_is r.group other f)) (gone_elsewhere g other m rows hs apart)
 
 -- ## a volume of the group
 
@@ -72,7 +75,8 @@ at_place g [] xs v r e f long = cc
 at_place g (q ∷ rows) [] v r e f long = cc
 at_place g (q ∷ rows) (x ∷ xs) zero r e f long = let same : q ≡ r = cc in get_first (q.group == g) x (of_group g rows xs) (same_number q.group g (ap (λ (z : VolumeRow). z.group) same ∙ f))
 at_place g (q ∷ rows) (x ∷ xs) (suc v) r e f long =
-    let rest : length xs ≡ length rows = cc in grind (arith, common_steps, get_if, at_place g rows xs v r e f rest)
+    let rest : length xs ≡ length rows = cc in
+    get_if (q.group == g) x (of_group g rows xs) (place_in g rows v) (slice_get xs v) (at_place g rows xs v r e f rest)
 
 change_if : (b : Bool) (f : History → History) (x : History) (xs ys : List History) (i : ℕ) → xs ≡ changed_at i f ys → of_group_if b x xs ≡ changed_at (count_if b i) f (of_group_if b x ys)
 change_if b f x xs ys i e = grind arith
@@ -85,7 +89,8 @@ pub changed_in_group : (g : ℕ) (f : History → History) (rows : List VolumeRo
 changed_in_group g f [] hs v r e is = cc
 changed_in_group g f (q ∷ rows) [] v r e is = refl
 changed_in_group g f (q ∷ rows) (h ∷ hs) zero r e is = let same : q ≡ r = cc in change_first (q.group == g) f h (of_group g rows hs) (same_number q.group g (ap (λ (z : VolumeRow). z.group) same ∙ is))
-changed_in_group g f (q ∷ rows) (h ∷ hs) (suc v) r e is = grind (arith, common_steps, change_if, changed_in_group g f rows hs v r e is)
+changed_in_group g f (q ∷ rows) (h ∷ hs) (suc v) r e is =
+    change_if (q.group == g) f h (of_group g rows (change_at v f hs)) (of_group g rows hs) (place_in g rows v) (changed_in_group g f rows hs v r e is)
 
 same_if : (b : Bool) (x : History) (xs ys : List History) → xs ≡ ys → of_group_if b x xs ≡ of_group_if b x ys
 same_if b x xs ys e = grind arith
@@ -100,7 +105,8 @@ pub changed_elsewhere : (g other : ℕ) (f : History → History) (rows : List V
     → of_group other rows (change_at v f hs) ≡ of_group other rows hs
 changed_elsewhere g other f [] hs v r e is apart = cc
 changed_elsewhere g other f (q ∷ rows) [] v r e is apart = refl
-changed_elsewhere g other f (q ∷ rows) (h ∷ hs) zero r e is apart = grind (arith, common_steps, left_out, not_same)
+changed_elsewhere g other f (q ∷ rows) (h ∷ hs) zero r e is apart =
+    let same : q ≡ r = cc in left_out (q.group == other) (f h) h (of_group other rows hs) (not_same q.group g other (ap (λ (z : VolumeRow). z.group) same ∙ is) apart)
 changed_elsewhere g other f (q ∷ rows) (h ∷ hs) (suc v) r e is apart = same_if (q.group == other) h _ _ (changed_elsewhere g other f rows hs v r e is apart)
 
 -- ## how far sets go
@@ -145,7 +151,8 @@ within_there s groups v g u x place has at = subst (λ (ns : List ℕ). u < leng
 
 pub blocks_are : {D : Type 0} (s : Plan) (groups : List (GroupValue D)) (v g u : ℕ) (x : GroupValue D) → IsPlaceOf s v g u → HasGroups s groups → slice_get groups g ≡ Some x
     → blocks_at x u ≡ blocks_of s v
-blocks_are s groups v g u x place has at = grind (arith, common_steps, blocks_there s v g u place)
+blocks_are s groups v g u x place has at =
+    ap (λ (ns : List ℕ). group_blocks_in (slice_get ns u)) (has.volumes g x at) ∙ ap group_blocks_in (blocks_there s v g u place) ∙ sym (ap plan_blocks_in place.is_row)
 
 -- ## its history
 
@@ -244,6 +251,7 @@ module _ {D : Type 0} (device : Ghosts D) (old : List (GroupValue D)) (g : ℕ) 
     kept = kept_one device old new g x y was refl h.kept;
     elsewhere = λ k apart. slice_get-set_other old g k y (λ e. apart (sym e));
     devices = λ p q at there.
+        let one : Some x ≡ Some p = sym was ∙ at in
         let first : x ≡ p = cc in
         let two : Some y ≡ Some q = sym (called_there old new g x y was refl) ∙ there in
         let second : y ≡ q = cc in
@@ -252,14 +260,17 @@ module _ {D : Type 0} (device : Ghosts D) (old : List (GroupValue D)) (g : ℕ) 
   }
 
   pub sync_of : (result : Result Unit Cause) → IsSync device x y result → IsSynced device old new g
-  sync_of result h = grind (arith, synced)
+  sync_of (Ok done) h = synced h.0
+  sync_of (Err cause) h = synced h.0
 
   pub sync_lasts : (result : Result Unit Cause) → OnOk result (device.lasting y.area.device ≡ device.told y.area.device) → IsSync device x y result
       → OnOk result ((s : Plan) → AreLasting device s old new g)
   sync_lasts (Err cause) lasts h = tt
   sync_lasts (Ok done) lasts h = λ s p q at there.
+      let one : Some x ≡ Some p = sym was ∙ at in
       let first : x ≡ p = cc in
       let now = called_there old new g x y was refl in
+      let two : Some y ≡ Some q = sym now ∙ there in
       let second : y ≡ q = cc in (
         subst (λ (z : GroupValue D). device.lasting z.area.device ≡ device.told z.area.device) second lasts,
         λ hs are tells.

@@ -1,14 +1,12 @@
 -- What every call keeps, from what it keeps of each group; and blocks that are hashed one after another.
 use Rattle.std.proofs.Common.{◌≡◌, ℕ, zero, suc, ◌+◌, ◌<◌, ◌≤◌, ◌==◌, List, [], ◌∷◌, ◌++◌, length, refl, ap, sym, ◌∙◌, subst, arith, Bool, true, false, Option}
-use Rattle.std.proofs.Common.{Some, map, slice_get, slice_set, ◌&&◌, is_some, Vec, rules}
+use Rattle.std.proofs.Common.{Some, None, map, slice_get, slice_set, ◌&&◌, is_some, Vec}
 use Rattle.std.specs.declared.alloc.Global.{Global}
-use Rattle.std.proofs.lemmas.Grind.{common_steps}
-use Rattle.cow_volume.specs.declared.image_fault.ImageFault.TheVariants as image
 use Rattle.vss_model.proofs.Words.{number_is}
-use Rattle.provider.specs.Words.{history_at}
+use Rattle.provider.specs.Words.{IsSeen, history_at}
 use Rattle.provider.proofs.Words.{AreKept, AreLater, Ghosts, GroupValue, IsKeptGroup, IsProvider, IsSameDevice, Plan, VolumeRow, counts_of, devices_of}
 use Rattle.provider.proofs.Words.{length-map, length-slice_set, map-append, same_number, slice_get-set_other, slice_get-set_same, slice_get_inside}
-use Rattle.provider.proofs.Words.{slice_get_within, tells_from, tells_of, told_at, told_by, told_in, true≢false, Adds, AreaRose, AtPoint, HasDigestCause}
+use Rattle.provider.proofs.Words.{slice_get_within, tells_from, tells_of, told_at, told_by, told_in, true≢false, AreaRose, AtPoint, HasDigestCause}
 use Rattle.provider.proofs.Words.{HasTaken, Hasher, ImageFault, ImageRose, IsQuietGroup, IsUnfailed, Rose, VolumeRose, Write, append-nil, concat, concat-append}
 use Rattle.provider.proofs.Words.{content, contents, is_there, map-range_with_len_more, quiet_stands, same_Some, sets_at, slice_get_map, unfailed_further}
 
@@ -104,10 +102,12 @@ tells_from-at : {D : Type 0} (told : D → Option (List (List ℕ))) (s : Plan) 
     → slice_get (tells_from told s ds n rows) v ≡ Some (is_some (told_at told s ds (n + v)))
 tells_from-at told s ds n v [] low = absurd (omega arith)
 tells_from-at told s ds n zero (r ∷ rows) low = let here : n ≡ n + 0 = omega arith in ap (λ (k : ℕ). Some (is_some (told_at told s ds k))) here
-tells_from-at told s ds n (suc v) (r ∷ rows) low = grind (arith, common_steps, tells_from-at told s ds (n + 1) v rows (omega arith))
+tells_from-at told s ds n (suc v) (r ∷ rows) low =
+    let more : n + 1 + v ≡ n + suc v = omega arith in
+    tells_from-at told s ds (n + 1) v rows (omega arith) ∙ ap (λ (k : ℕ). Some (is_some (told_at told s ds k))) more
 
 pub tells_of-at : {D : Type 0} (told : D → Option (List (List ℕ))) (s : Plan) (ds : List D) (v : ℕ) → v < length s.volumes → slice_get (tells_of told s ds) v ≡ Some (is_some (told_at told s ds v))
-tells_of-at told s ds v within = grind (arith, tells_from-at)
+tells_of-at told s ds v within = let none : 0 + v ≡ v = omega arith in tells_from-at told s ds 0 v s.volumes within ∙ ap (λ (k : ℕ). Some (is_some (told_at told s ds k))) none
 
 -- ## what is kept
 
@@ -173,6 +173,7 @@ kept_one {D = D} device old new g x y was is kept =
         by_test : (t : Bool) → (g == k) ≡ t → IsKeptGroup device p q
         by_test true f =
             let same : g ≡ k = number_is g k f in
+            let one : Some x ≡ Some p = sym was ∙ subst (λ (n : ℕ). slice_get old n ≡ Some p) (sym same) at in
             let first : x ≡ p = cc in
             let two : Some y ≡ Some q = sym (slice_get-set_same old g x y was) ∙ subst (λ (n : ℕ). slice_get (slice_set old g y) n ≡ Some q) (sym same) there in
             let second : y ≡ q = cc in
@@ -201,7 +202,7 @@ provider_kept device old new volumes list kept is = grind (arith, same_length)
 -- ## after quiet calls
 
 pub quiet_same : {D : Type 0} (device : Ghosts D) (x : GroupValue D) → IsQuietGroup device x x
-quiet_same device x = grind (arith, kept_itself)
+quiet_same device x = record { kept = kept_itself device x; records = refl; images = refl; blocks = refl; slots = refl; blocks_last = λ v h. h; slots_last = λ h. h }
 
 pub quiet_then : {D : Type 0} (device : Ghosts D) (x y z : GroupValue D) → IsQuietGroup device x y → IsQuietGroup device y z → IsQuietGroup device x z
 quiet_then device x y z h k = grind (arith, kept_then)
@@ -227,25 +228,30 @@ pub record HasHashed {D : Type 0} (device : Ghosts D) (first now : GroupValue D)
 
 one_more : (k : ℕ) (ws : List Write) (p : ℕ) → concat (contents (k + 1) ws p) ≡ concat (contents k ws p) ++ content ws p k
 one_more k ws p =
-    let fact = map-range_with_len_more (content ws p) 0 k k (omega arith) in
-    grind (arith, common_steps, concat-append (contents k ws p) (content ws p k ∷ []), append-nil (content ws p k))
+    ap concat (map-range_with_len_more (content ws p) 0 k k (omega arith))
+    ∙ concat-append (contents k ws p) (content ws p k ∷ [])
+    ∙ ap (λ (xs : List ℕ). concat (contents k ws p) ++ xs) (append-nil (content ws p k))
 
-pub hashed_more : {D : Type 0} (device : Ghosts D) (first old new : GroupValue D) (u : ℕ) (set : Option ℕ) (k : ℕ) (before after : Hasher) → HasHashed device first old u set k before
-    → Adds device.told old u set k before after → IsUnfailed device.count old new → IsQuietGroup device old new → HasHashed device first new u set (k + 1) after
-hashed_more device first old new u set k before after was adds same quiet = record {
+-- what is seen of a block is so at the point that is shown
+pub at_seen : {D : Type 0} (told : D → Option (List (List ℕ))) (g : GroupValue D) (u : ℕ) (set : Option ℕ) (b : ℕ) (bytes : List ℕ) → IsSeen told g u set b bytes
+    → AtPoint told g u set (λ ws p. bytes ≡ content ws p b)
+at_seen told g u None b bytes seen hs d p stands at tells area end = grind arith
+at_seen told g u (Some set) b bytes seen hs d p stands at tells area point = seen hs d p stands at tells area point
+
+-- one more block was read as it was there, and was hashed
+pub hashed_more : {D : Type 0} (device : Ghosts D) (first old new : GroupValue D) (u : ℕ) (set : Option ℕ) (k : ℕ) (bytes : List ℕ) (before after : Hasher)
+    → HasHashed device first old u set k before → IsSeen device.told old u set k bytes → ((parts : List ℕ) → HasTaken before parts → HasTaken after (parts ++ bytes))
+    → IsUnfailed device.count old new → IsQuietGroup device old new → HasHashed device first new u set (k + 1) after
+hashed_more device first old new u set k bytes before after was seen taken same quiet = record {
   quiet = quiet_then device first old new was.quiet quiet;
   same = unfailed_further device.count first old new was.same same;
   taken = λ hs d p stands at tells area there.
       let so_far = was.taken hs d p stands at tells area there in
-      let block = at_first device first old u set (λ ws q. adds.bytes ≡ content ws q k) was.quiet adds.is hs d p stands at tells area there in
-      subst (λ (bytes : List ℕ). HasTaken after bytes) (ap (λ (xs : List ℕ). concat (contents k (history_at hs u).writes p) ++ xs) block ∙ sym (one_more k (history_at hs u).writes p))
-      (adds.taken (concat (contents k (history_at hs u).writes p)) so_far);
+      let is = at_seen device.told old u set k bytes seen in
+      let block = at_first device first old u set (λ ws q. bytes ≡ content ws q k) was.quiet is hs d p stands at tells area there in
+      subst (λ (xs : List ℕ). HasTaken after xs) (ap (λ (xs : List ℕ). concat (contents k (history_at hs u).writes p) ++ xs) block ∙ sym (one_more k (history_at hs u).writes p))
+      (taken (concat (contents k (history_at hs u).writes p)) so_far);
 }
-
--- likewise, of a group that stays as it is
-pub hashed_still : {D : Type 0} (device : Ghosts D) (x : GroupValue D) (u : ℕ) (set : Option ℕ) (k : ℕ) (before after : Hasher) → HasHashed device x x u set k before
-    → Adds device.told x u set k before after → HasHashed device x x u set (k + 1) after
-hashed_still device x u set k before after was adds = search (rules, hashed_more, quiet_same)
 
 -- a device failed later: its count rose since the first call too
 volume_since : {D : Type 0} (count : D → ℕ) (first old new : GroupValue D) (u : ℕ) → IsUnfailed count first old → length old.devices ≡ length first.devices → VolumeRose count u old new

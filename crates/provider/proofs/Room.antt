@@ -1,7 +1,6 @@
 -- Room is made in one group for a write: which images go of all volumes, and by which numbers they are told.
 use Rattle.std.proofs.Common.{◌≡◌, ℕ, zero, suc, ◌+◌, ◌<◌, List, [], ◌∷◌, ◌++◌, length, take, drop, get_or, map, refl, ap, sym, ◌∙◌, arith, Some, slice_get}
 use Rattle.std.proofs.Common.{slice_set, ◌≤◌, ◌==◌, subst, Bool, true, false, Option, ◌&&◌, if◌then◌else◌}
-use Rattle.std.proofs.lemmas.Grind.{common_steps}
 use Rattle.provider.specs.Words.{HasRoom as HasGroupRoom, holders as group_holders, images_going as group_images, lacks_slot, placed as all_placed}
 use Rattle.provider.proofs.InGroup.{becomes, gone_in_group, gone_elsewhere, evicted_in_group}
 use Rattle.provider.proofs.Called.{Called, call_of, called_found, devices_still}
@@ -11,7 +10,7 @@ use Rattle.provider.proofs.Dropped.{point_among}
 use Rattle.provider.proofs.Words.{Evicted, Plan, get_or_from_slice_get, renumbered, slice_get_inside, volume_in, AreGroups, Ghosts, GoUpTo, GroupValue, HasRoom}
 use Rattle.provider.proofs.Words.{History, IsEvicted, IsKeptGroup, IsLastSet, IsRoomMade, Placed, StandsFor, VolumeRow, as_many_gone, blocks_in_group}
 use Rattle.provider.proofs.Words.{evicted_of, evicted_up_to, flat_map, flat_map-cons, gone_group, gone_up_to, group_of, has_image, holders, images_going}
-use Rattle.provider.proofs.Words.{length-map, made_room, map-append, of_group, of_group_if, place_in, placed, placed_in, sets_at, sets_of}
+use Rattle.provider.proofs.Words.{length-map, made_room, map-append, of_group, of_group_if, place_in, placed, placed_in, range_with_len, sets_at, sets_of}
 use Rattle.provider.proofs.Words.{slice_get_within, slots_in, slots_of, volume_after}
 
 -- ## Images get the numbers of the scenario, one after another.
@@ -106,7 +105,12 @@ evicted_same s g n (v ∷ vs) = ap (λ (images : List Evicted). record { set = n
 
 flat_same : (h : Evicted → Evicted) (F G : ℕ → List Evicted) (ns : List ℕ) → ((n : ℕ) → map h (F n) ≡ G n) → map h (flat_map F ns) ≡ flat_map G ns
 flat_same h F G [] same = refl
-flat_same h F G (n ∷ ns) same = grind (arith, common_steps, flat_map-cons, map-append, flat_same h F G ns same)
+flat_same h F G (n ∷ ns) same =
+    ap (map h) (flat_map-cons F n ns)
+    ∙ map-append h (F n) (flat_map F ns)
+    ∙ ap (λ (xs : List Evicted). xs ++ map h (flat_map F ns)) (same n)
+    ∙ ap (λ (xs : List Evicted). G n ++ xs) (flat_same h F G ns same)
+    ∙ sym (flat_map-cons G n ns)
 
 images_are : (images : List (List ℕ)) (hs : List History) → length images ≡ length hs
     → ((u : ℕ) (is : List ℕ) (h : History) → slice_get images u ≡ Some is → slice_get hs u ≡ Some h → is ≡ sets h) → images ≡ map sets hs
@@ -152,7 +156,15 @@ module _ {D : Type 0} (told : D → Option (List (List ℕ))) {s : Plan} {groups
   going : (up_to : ℕ) (hs : List History) → AreGroups told s groups hs → map (renumbered s f.group) (group_images up_to f.here.images) ≡ images_going up_to (group_of s v) hs
   going up_to hs are =
       let images = group_images_are told f.here (own f hs) (stands_here told f hs are) in
-      grind (arith, common_steps, group_images_are, stands_here, flat_same, evicted_same, holders_same, group_is, there)
+      let none : (k : ℕ) → volume_in f.group s.volumes (0 + k) ≡ 0 + volume_in f.group s.volumes k = λ k. start k in
+      flat_same (renumbered s f.group) (λ n. evicted_of n (group_holders n 0 f.here.images)) (λ n. evicted_of n (holders n 0 (map (placed f.group) s.volumes) hs)) (range_with_len 1 up_to)
+      (λ n. evicted_same s f.group n (group_holders n 0 f.here.images)
+      ∙ ap (λ (xs : List (List ℕ)). evicted_of n (map (volume_in f.group s.volumes) (group_holders n 0 xs))) images
+      ∙ ap (evicted_of n) (holders_same f.group n 0 0 (volume_in f.group s.volumes) s.volumes hs none))
+      ∙ ap (λ (ps : List Placed). images_going up_to ps hs) (sym group_is)
+    where
+      start : (k : ℕ) → volume_in f.group s.volumes (0 + k) ≡ 0 + volume_in f.group s.volumes k
+      start k = let here : 0 + k ≡ k = omega arith in let there : volume_in f.group s.volumes k ≡ 0 + volume_in f.group s.volumes k = omega arith in ap (volume_in f.group s.volumes) here ∙ there
 
 -- ## the call
 
@@ -199,4 +211,8 @@ room_here b f room = room f.group f.within f.here f.place f.at
 -- the group has no more volumes than the scenario
 pub few_within : (g : ℕ) (rows : List VolumeRow) → length (blocks_in_group g rows) ≤ length rows
 few_within g [] = omega arith
-few_within g (r ∷ rows) = grind (arith, common_steps, few_within g rows)
+few_within g (r ∷ rows) = by_test (r.group == g) (few_within g rows)
+  where
+    by_test : (b : Bool) → length (blocks_in_group g rows) ≤ length rows → length (of_group_if b r.blocks (blocks_in_group g rows)) ≤ suc (length rows)
+    by_test true low = omega arith
+    by_test false low = omega arith

@@ -29,5 +29,5 @@ pub use Rattle.provider.specs.Calls.{IsRevert, IsRoomMade, IsShown, IsThere, hol
 pub use Rattle.provider.specs.Groups.{AreKept, AreLasting, AreLater, HasCause, HasSyncCause, IsCallOn, IsKeptGroup, IsSynced, RoseAlone, area_place, counts_of}
 pub use Rattle.provider.specs.Groups.{devices_of, fault_of, first_place, tells_from, tells_of, told_at, told_by, told_of, volume_place, volume_place_in}
 pub use Rattle.provider.specs.Groups.{volumes_area, volumes_area_in, AreFresh, AreGroups, AreWhole, HasGroups, IfStandFor, IsGroup, IsPointOf, history_at}
-pub use Rattle.provider.specs.GroupCalls.{Adds, AtPoint, HasDigestCause, ImageRose, IsDigestAt, IsGroupDrop, IsQuietGroup, IsWithout}
+pub use Rattle.provider.specs.GroupCalls.{AtPoint, HasDigestCause, ImageRose, IsDigestAt, IsGroupDrop, IsQuietGroup, IsWithout}
 pub use Rattle.provider.specs.Preparing.{CanCutOn, HasStepCause, IsCutOn, IsProvider, ProviderValue, refusal, step_taken}

@@ -3,7 +3,7 @@ use Rattle.std.specs.Prelude.{ℕ, ◌≡◌, ◌<◌, ◌≤◌, ◌+◌, ◌&&
 use Rattle.std.specs.List.{concat, flat_map, range_with_len}
 use Rattle.vss_model.specs.Words.{Evicted, History, IsPlaceOf, Placed, Plan, Write, blocks_of, change_at, content, contents, count_images, dropped, evicted_of, evicted_up_to, gone_up_to, group_of}
 use Rattle.vss_model.specs.Words.{has_image, point_in, reverted, reverted_in_part, slots_of, to_restore, volume_in, written}
-use Rattle.provider.specs.Words.{Cause, Digested, Fault, Ghosts, GroupValue, ImageFault, IsBytes, LastsAt, NoSuchImage, RevertFault, counted_by, lacks_slot, sets_at, sha256}
+use Rattle.provider.specs.Words.{Cause, Digested, Fault, Ghosts, GroupValue, ImageFault, IsBytes, LastsAt, NoSuchImage, RevertFault, lacks_slot, sets_at, sha256}
 use Rattle.cow_volume.specs.declared.cause.Cause.TheVariants as cause
 use Rattle.cow_volume.specs.declared.image_fault.ImageFault.TheVariants.{NoSuchBlock, Volume, Area}
 use Rattle.cow_volume.specs.declared.revert_fault.RevertFault.TheVariants.{NoSuchImage as NoImage}

@@ -1,8 +1,8 @@
 -- What a call on one group of several comes to. (This project's own.)
-use Rattle.std.specs.Prelude.{ℕ, ◌≡◌, ◌<◌, Bool, true, false, List, map, ◌++◌, Option, Some, is_some, slice_get, Result, OnOk, IfOk, IfErr}
+use Rattle.std.specs.Prelude.{ℕ, ◌≡◌, ◌<◌, Bool, true, false, List, map, Option, Some, is_some, slice_get, Result, OnOk, IfOk, IfErr}
 use Rattle.std.specs.List.{concat}
-use Rattle.vss_model.specs.Words.{History, Write, content, contents, count_images, dropped}
-use Rattle.provider.specs.Words.{AreaRose, Ghosts, GroupValue, HasTaken, Hasher, ImageFault, IsChanged, IsQuiet, IsUnfailed, NoSuchImage, StandsFor, VolumeRose, blocks_at}
+use Rattle.vss_model.specs.Words.{History, Write, contents, count_images, dropped}
+use Rattle.provider.specs.Words.{AreaRose, Ghosts, GroupValue, ImageFault, IsChanged, IsQuiet, IsUnfailed, NoSuchImage, StandsFor, VolumeRose, blocks_at}
 use Rattle.provider.specs.Words.{history_at, is_among, is_there, sets_at, sha256}
 use Rattle.cow_volume.specs.declared.image_fault.ImageFault.TheVariants.{NoSuchBlock, Volume, Area}
 use Rattle.provider.specs.Groups.{IsPointOf, IsKeptGroup}
@@ -31,12 +31,6 @@ pub record IsWithout {D : Type 0} (device : Ghosts D) (old new : GroupValue D) (
 abbrev pub AtPoint : {D : Type 0} → (D → Option (List (List ℕ))) → GroupValue D → ℕ → Option ℕ → (List Write → ℕ → Type 0) → Type 0
 AtPoint {D = D} told g u set P = (hs : List History) (d : D) (p : ℕ) → StandsFor told g hs → slice_get g.devices u ≡ Some d → is_some (told d) ≡ true → is_some (told g.area.device) ≡ true
     → IsPointOf set (history_at hs u) p → P (history_at hs u).writes p
-
--- block b as it was there was hashed
-pub record Adds {D : Type 0} (told : D → Option (List (List ℕ))) (g : GroupValue D) (u : ℕ) (set : Option ℕ) (b : ℕ) (before after : Hasher) : Type 0 where
-  pub bytes : List ℕ
-  pub is : AtPoint told g u set (λ ws p. bytes ≡ content ws p b)
-  pub taken : (parts : List ℕ) → HasTaken before parts → HasTaken after (parts ++ bytes)
 
 -- the digest is that of all blocks there
 abbrev pub IsDigestAt : {D : Type 0} → (D → Option (List (List ℕ))) → GroupValue D → ℕ → Option ℕ → List ℕ → Type 0

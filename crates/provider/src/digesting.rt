@@ -1,16 +1,13 @@
 //! The SHA-256 of volumes and of images, made side by side by several threads, of blocks that are lent or read by them all.
 
-ghost use Rattle.std.specs.Prelude.{◌≡◌, ◌<◌, true, length, IfOk, IfSome, All};
-ghost use Rattle.hex.specs.Hex.{IsBytes};
-ghost use Rattle.cow_volume.specs.Calls.{blocks_at};
+ghost use Rattle.std.specs.Prelude.{◌<◌, length, IfOk, IfSome, All};
 ghost use Rattle.provider.specs.Groups.{HasGroups};
-ghost use Rattle.provider.specs.GroupCalls.{Adds, IsDigestAt};
 ghost use Rattle.provider.specs.Calls.{IsDigestTold, IsDigestedAt, IsRowOf};
 
 use crate::digested::Digested;
 use crate::digests_of::DigestsOf;
-use crate::hashing::are_bytes;
-use block_data::{BlockBuf, Hasher};
+use crate::hashing::digest_of;
+use block_data::BlockBuf;
 use cow_volume::CowGroup;
 use scenario::Scenario;
 use std::alloc::Global;
@@ -19,54 +16,7 @@ use std::thread::Threads;
 use volume_device::Device;
 use vss_names::OutOfMemory;
 
-/// Adds a block of a volume, as it is or as the image of a set shows it, while other threads may read too. Whether that
-/// could be done.
-fn add_shared<D: Device>(
-    hasher: &mut Hasher,
-    group: &CowGroup<D>,
-    buffer: &mut BlockBuf,
-    volume: u32,
-    set: Option<u32>,
-    block: u32,
-) -> bool
-    requires volume { volume < length group.now.area.volumes }
-    requires in_range { block < blocks_at group.now volume }
-    ensures { result ≡ true → Adds D.told group.now volume set block hasher.old hasher.new }
-{
-    if let Ok(Some(bytes)) = group.lend(volume, set, block) {
-        hasher.add(bytes);
-        return true;
-    }
-    if !group.read_shared(volume, set, block, buffer.bytes_mut()) {
-        return false;
-    }
-    hasher.add(buffer.bytes());
-    true
-}
-
-/// The SHA-256 of all blocks of a volume, or of the image of a set on it, in order. None if a block could not be read so.
-fn digest_shared<D: Device>(
-    group: &CowGroup<D>,
-    buffer: &mut BlockBuf,
-    volume: u32,
-    set: Option<u32>,
-) -> Option<[u8; 32]>
-    requires { volume < length group.now.area.volumes }
-    ensures digest { IfSome result (IsDigestAt D.told group.now volume set) }
-    ensures wide { IfSome result (λ digest. (length digest ≡ 32) × IsBytes digest) }
-{
-    let mut hasher = Hasher::new();
-    for block in 0..group.blocks(volume) {
-        if !add_shared(&mut hasher, group, buffer, volume, set, block) {
-            return None;
-        }
-    }
-    let digest = hasher.finish();
-    are_bytes(&digest);
-    Some(digest)
-}
-
-/// The SHA-256 of a volume, or of the image of a set on it. None if memory for a block is wanting too.
+/// The SHA-256 of a volume, or of the image of a set on it. None if a block could not be read so, or out of memory.
 fn digest_beside<D: Device>(
     alloc: Global,
     groups: &Vec<CowGroup<D>>,
@@ -82,8 +32,8 @@ fn digest_beside<D: Device>(
         return None;
     };
     let place = scenario.place(volume);
-    let group = &groups[place.group as usize];
-    digest_shared(group, &mut buffer, place.volume, set)
+    let mut group = &groups[place.group as usize];
+    digest_of(&mut group, &mut buffer, place.volume, set).ok()
 }
 
 /// A row without a digest for each volume, in order, each followed by those of its images if they are wanted, the oldest

@@ -13,12 +13,12 @@ digest_of-requires g c = inside (found_by c.self.view_is c.requires.has c.place-
 
 pub invariant_of-self : goal.invariant_of-self
 invariant_of-self g c =
-    let now = called (found_by c.self.view_is c.requires.has c.place-place.ensures c.index_mut-group.ensures.value) c.digest_of.new.group in
+    let now = called (found_by c.self.view_is c.requires.has c.place-place.ensures c.index_mut-group.ensures.value) c.digest_of.new.reader in
     provider_kept g.D.Device _ _ c.self.inside.volumes c.self.inside.list ((quiet_of g.D.Device now c.digest_of.ensures.digest.quiet).call.kept) c.self.invariant
 
 pub returns : goal.returns
 returns g c =
-    let now = called (found_by c.self.view_is c.requires.has c.place-place.ensures c.index_mut-group.ensures.value) c.digest_of.new.group in
+    let now = called (found_by c.self.view_is c.requires.has c.place-place.ensures c.index_mut-group.ensures.value) c.digest_of.new.reader in
     rw (← c.self.view_is) (record {
       digest = IfOk-weaker c.digest_of.result _ _ (digest_shown g.D.Device.told now.found c.args.set) c.digest_of.ensures.digest.digest;
       wide = c.digest_of.ensures.wide;

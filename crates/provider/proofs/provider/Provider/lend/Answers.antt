@@ -2,8 +2,9 @@ use Rattle.std.proofs.Common.{is_some, IfOk, ◌≡◌, true, false}
 use Rattle.provider.proofs.Words.{IfErr-weaker, IfOk-weaker}
 use Rattle.write_history.specs.History.{content}
 use Rattle.cow_volume.specs.Parts.{IsLentBy}
-use Rattle.provider.proofs.Found.{at_seen, below, found_by, inside, on_ok, shown_of, some_map, there, there_of}
+use Rattle.provider.proofs.Found.{below, found_by, inside, on_ok, shown_of, some_map, there, there_of}
 use Rattle.provider.proofs.Called.{unseen_image}
+use Rattle.provider.proofs.Kept.{at_seen}
 use Rattle.provider.proofs.provider.Provider.lend.Goals as goal
 
 pub lend-requires : goal.lend-requires

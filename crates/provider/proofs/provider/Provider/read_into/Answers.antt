@@ -1,10 +1,10 @@
 use Rattle.std.proofs.Common.{◌≡◌, arith, refl}
 use Rattle.std.proofs.lemmas.Result.{IfErr-weaker}
 use Rattle.write_history.specs.History.{content}
-use Rattle.provider.proofs.Found.{at_seen, below, found_by, group_low, inside, on_ok, shown_of}
+use Rattle.provider.proofs.Found.{below, found_by, group_low, inside, on_ok, shown_of}
 use Rattle.provider.proofs.Called.{by_fault, called, image_cause_of, quiet_of}
 use Rattle.provider.proofs.provider.Provider.read_into.Goals as goal
-use Rattle.provider.proofs.Kept.{provider_kept}
+use Rattle.provider.proofs.Kept.{at_seen, provider_kept}
 
 pub index_mut-requires : goal.index_mut-requires
 index_mut-requires g c = let low = group_low c.self.view_is c.requires.has c.place-place.ensures in omega (arith, low, c.self.inside.groups.ok.0)
