@@ -1,14 +1,13 @@
 -- Where the Cut step is the next one, every volume of the set is held and every participant stands frozen.
-use Rattle.std.proofs.Common.{◌≡◌, ℕ, ◌==◌, List, [], ◌∷◌, Option, Some, refl, Bool, true, false, map, filter, ap, sym, subst, arith}
-use Rattle.std.specs.Prelude.{◌&&◌, ◌||◌, not, if◌then◌else◌}
+use Rattle.std.proofs.Common.{◌≡◌, ℕ, ◌==◌, List, [], ◌∷◌, Option, Some, refl, Bool, true, false, filter, ap, sym, subst, arith}
+use Rattle.std.specs.Prelude.{◌&&◌, ◌||◌, not}
 use Rattle.vss_model.proofs.Terms.{common_steps, nat_tests, list_any, and_parts, or_parts, Level, System, BackEnd, FrontEnd, PrepareSnapshot, Freeze, Thaw}
-use Rattle.vss_model.proofs.Terms.{PostSnapshot, is_ok, Group, Orders, PreCommit, Flush, Hold, Cut, Commit, Release, PostCommit, Kind, Snapshot, Member, Place}
-use Rattle.vss_model.proofs.Terms.{Agenda, Entry, Open, plain, at_level, places, group_code, level_code, is_freeze, is_thaw, has_said, has_frozen, has_thawed}
-use Rattle.vss_model.proofs.Terms.{is_at, writers_at, waited_for, with_group, left_from, left, open_group, is_among, is_snapshot, is_member, Plan, State}
-use Rattle.vss_model.proofs.Terms.{SetRow, in_progress, left_now, is_held, is_frozen, Act, state, is_cut_group}
-use Rattle.set_agenda.specs.Agenda.{is_held as holds, is_frozen as freezes}
+use Rattle.vss_model.proofs.Terms.{PostSnapshot, is_ok, Orders, PreCommit, Flush, Hold, Cut, Commit, Release, PostCommit, Kind, Snapshot, Member, Place, Agenda}
+use Rattle.vss_model.proofs.Terms.{Entry, Open, plain, at_level, places, group_code, level_code, is_freeze, is_thaw, has_said, has_frozen, has_thawed}
+use Rattle.vss_model.proofs.Terms.{writers_at, waited_for, with_group, left_from, open_group, is_among, is_snapshot, is_member, Plan, State, SetRow}
+use Rattle.vss_model.proofs.Terms.{in_progress, left_now, is_held, is_frozen, Act, state, is_cut_group, holds, freezes}
 use Rattle.vss_model.proofs.Orderly.{true_not_false}
-use Rattle.vss_model.proofs.HeldOfSet.{IsOf, Tied, tied, undoes, is_refusal, is_undoing, is_cut_made, IsSound, SoundLog, sound}
+use Rattle.vss_model.proofs.HeldOfSet.{IsOf, Tied, tied, is_refusal, is_undoing, is_cut_made, IsSound, sound}
 
 -- ## what is closed at the cut
 
@@ -26,9 +25,6 @@ pub record IsAtCut (a : Agenda) : Type 0 where
 closed : (p : Place) (ws : List ℕ) (later : List Open) → is_cut_group (Some p.group) ≡ false → is_cut_group (open_group (with_group p ws later)) ≡ true → (ws ≡ []) × (is_cut_group (open_group later) ≡ true)
 closed p ws later e h = grind arith
 
-cut_open : (b : Bool) (later : List Open) → is_cut_group (open_group later) ≡ false → is_cut_group (open_group (with_group (plain Cut) (if not b then 0 ∷ [] else []) later)) ≡ true → b ≡ false
-cut_open b later e h = grind arith
-
 none_after : (a : Agenda) → is_cut_group (open_group (left_from a (plain Commit ∷ plain Release ∷ plain PostCommit ∷ at_level Thaw System ∷ at_level Thaw BackEnd ∷ at_level Thaw FrontEnd ∷ plain (Orders PostSnapshot) ∷ []))) ≡ false
 none_after a = grind arith
 
@@ -43,20 +39,10 @@ cut_is_open a c = grind arith
 
 -- ## held
 
-said_if : (b : Bool) (log : List Entry) (p : Place) (x who : ℕ) (xs rest : List ℕ) → has_said log p x ≡ b → (if not b then x ∷ rest else rest) ≡ []
-    → ((x == who) || is_among who xs) ≡ true → (rest ≡ [] → is_among who xs ≡ true → has_said log p who ≡ true) → has_said log p who ≡ true
-said_if b log p x who xs rest e f g ih = grind arith
-
 -- where nobody is waited for, all have said something
 pub all_said : (log : List Entry) (p : Place) (xs : List ℕ) (who : ℕ) → filter (λ x. not (has_said log p x)) xs ≡ [] → is_among who xs ≡ true → has_said log p who ≡ true
 all_said log p [] who e f = absurd cc
-all_said log p (x ∷ xs) who e f = said_if (has_said log p x) log p x who xs _ refl e f (all_said log p xs who)
-
-release_undoes : (g : Group) → (group_code g == 12) ≡ true → undoes g ≡ true
-release_undoes g e = grind arith
-
-thaw_undoes : (g : Group) → is_thaw g ≡ true → undoes g ≡ true
-thaw_undoes g e = grind arith
+all_said log p (x ∷ xs) who e f = grind (arith, all_said log p xs who)
 
 -- one test follows from another, so where the other finds nothing, neither does it
 none_found : (test wider : Entry → Bool) → ((x : Entry) → test x ≡ true → wider x ≡ true) → (log : List Entry) → list_any wider log ≡ false → list_any test log ≡ false
@@ -77,7 +63,7 @@ and_three a b c e f g = grind arith
 
 -- nothing is said of a Release before the Cut step
 pub release_not : (log : List Entry) (v : ℕ) → IsSound log → is_cut_made log ≡ false → has_said log (plain Release) v ≡ false
-release_not log v h e = grind (arith, none_found, release_undoes, and_parts, undone_not)
+release_not log v h e = grind (arith, none_found, and_parts, undone_not)
 
 held_in : (a : Agenda) (v : ℕ) → a.kind ≡ Snapshot → IsAtCut a → IsSound a.log → is_among v a.volumes ≡ true → holds (Some a) v ≡ true
 held_in a v k c h e =
@@ -88,9 +74,6 @@ held_in a v k c h e =
 
 -- ## frozen
 
-freeze_coded : (g : Group) → (group_code g == 3) ≡ true → is_freeze g ≡ true
-freeze_coded g e = grind arith
-
 -- what was said at Freeze was ok
 ok_head : (coded level freeze ok who more said : Bool) → (coded ≡ true → freeze ≡ true) → (freeze && not ok) ≡ false → (((coded && level) && who) || said) ≡ true → (said ≡ true → more ≡ true) → ((freeze && ok && who) || more) ≡ true
 ok_head coded level freeze ok who more said f e g ih = grind arith
@@ -100,25 +83,16 @@ said_is_ok [] l w e f = absurd cc
 said_is_ok (x ∷ log) l w e f =
     let parts = or_parts (is_refusal x) (list_any is_refusal log) e in
     ok_head (group_code x.place.group == 3) (level_code x.place.level == level_code (Some l)) (is_freeze x.place.group) (is_ok x.said) (x.who == w) (has_frozen log w) (has_said log (at_level Freeze l) w)
-    (freeze_coded x.place.group) parts.0 f (said_is_ok log l w parts.1)
-
-is_at_own : (l : Level) → is_at (Some l) l ≡ true
-is_at_own l = grind arith
-
-among_head : (b c : Bool) (m : Member) (w : ℕ) (ms : List Member) → b ≡ true → (m.writer == w) ≡ true → is_among w (map (λ x. x.writer) (if b then m ∷ ms else ms)) ≡ true
-among_head b c m w ms e f = grind arith
-
-among_more : (b : Bool) (m : Member) (w : ℕ) (ms : List Member) → is_among w (map (λ x. x.writer) ms) ≡ true → is_among w (map (λ x. x.writer) (if b then m ∷ ms else ms)) ≡ true
-among_more b m w ms e = grind arith
+    (λ y. grind arith) parts.0 f (said_is_ok log l w parts.1)
 
 -- what holds of the writers of each level holds of all
 member_of_level : (log : List Entry) (ms : List Member) (w : ℕ) → ((l : Level) → is_among w (writers_at ms (Some l)) ≡ true → has_frozen log w ≡ true) → is_member ms w ≡ true → has_frozen log w ≡ true
 member_of_level log [] w each e = absurd cc
 member_of_level log (m ∷ ms) w each e =
-    by_cases (m.writer == w) refl e (λ g. member_of_level log ms w (λ l h. each l (among_more (is_at (Some l) m.level) m w (filter (λ x. is_at (Some l) x.level) ms) h)) g)
+    by_cases (m.writer == w) refl e (λ g. member_of_level log ms w (λ l h. each l (grind arith)) g)
   where
     by_cases : (b : Bool) → (m.writer == w) ≡ b → (b || is_member ms w) ≡ true → (is_member ms w ≡ true → has_frozen log w ≡ true) → has_frozen log w ≡ true
-    by_cases true f g more = each m.level (among_head (is_at (Some m.level) m.level) true m w (filter (λ x. is_at (Some m.level) x.level) ms) (is_at_own m.level) f)
+    by_cases true f g more = each m.level (grind (arith, common_steps))
     by_cases false f g more = more g
 
 frozen_at : (a : Agenda) (w : ℕ) → IsAtCut a → IsSound a.log → (l : Level) → is_among w (writers_at a.members (Some l)) ≡ true → has_frozen a.log w ≡ true
@@ -132,7 +106,7 @@ frozen_in a w k c h e =
     (ap is_snapshot k)
     (member_of_level a.log a.members w (frozen_at a w c h) e)
     (none_found (λ (x : Entry). is_thaw x.place.group && (x.who == w)) is_undoing
-    (λ x g. thaw_undoes x.place.group (and_parts (is_thaw x.place.group) (x.who == w) g).0)
+    (λ x g. grind (arith, (and_parts (is_thaw x.place.group) (x.who == w) g).0))
     a.log (undone_not a.log h c.cut))
 
 -- ## in the state
@@ -146,11 +120,8 @@ pub record CutsNow (st : State) : Type 0 where
   pub log : IsSound agenda.log
   pub of_set : Tied (Some agenda) st.course.members (in_progress st)
 
-cuts_in : (o : Option Agenda) (st : State) → st.course.agenda ≡ o → is_cut_group (open_group (left o)) ≡ true → SoundLog o → Tied o st.course.members (in_progress st) → CutsNow st
-cuts_in o st e h l t = grind (arith, common_steps, closed, cut_open, none_after)
-
 pub cuts : (s : Plan) (acts : List Act) → is_cut_group (open_group (left_now (state s acts))) ≡ true → CutsNow (state s acts)
-cuts s acts h = cuts_in (state s acts).course.agenda (state s acts) refl h (sound s acts) (tied s acts)
+cuts s acts h = grind (arith, common_steps, nat_tests, closed, none_after, sound s acts, tied s acts)
 
 pub tied_to : (a : Agenda) (k : Kind) (ms : List Member) (o : Option SetRow) (r : SetRow) → k ≡ Snapshot → o ≡ Some r → IsOf k a.volumes a.members ms o → (a.volumes ≡ r.volumes) × (a.members ≡ ms)
 tied_to a k ms o r e f h = grind arith

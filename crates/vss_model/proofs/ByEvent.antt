@@ -2,27 +2,25 @@
 use Rattle.std.proofs.Common.{◌≡◌, ℕ, Option, Some, Bool, true, false, arith, ◌∙◌, List, [], None, refl, sym, subst}
 use Rattle.std.specs.Prelude.{◌&&◌, not, length, map, is_some, if◌then◌else◌}
 use Rattle.requestor.specs.Check.{allows}
-use Rattle.requestor.specs.declared.session_call.SessionCall.TheVariants as call
-use Rattle.scenario.specs.declared.line.Line.{Line as Does}
 use Rattle.scenario.specs.declared.line.Line.TheVariants.{Reverts}
 use Rattle.scenario.specs.declared.op.Op.TheVariants.{Gather, Prepare, Snapshot, Complete}
 use Rattle.scenario.specs.declared.span.Span.{Span}
 use Rattle.vss_model.specs.Lines.{reply_to}
-use Rattle.vss_model.specs.declared.event.Event.TheVariants.{Answer as AnswerEvent}
 use Rattle.vss_model.proofs.StateForm.{failed, Replied, write, reverted_as, image_block, image_blocks, properties, delete_set, delete_kept, delete_image}
 use Rattle.vss_model.proofs.StateForm.{revert_to, revert, disable, gather, pending, refused, complete, start_set, change_set, end_session, component_in, add}
-use Rattle.vss_model.proofs.StateForm.{await_last, line_in, session_line, judged, answered, stepped, ticked, called, does, line, happens, add_to}
+use Rattle.vss_model.proofs.StateForm.{line_in, session_line, judged, answered, stepped, ticked, called, does, line, happens, add_to}
 use Rattle.vss_model.proofs.Terms.{SessionCall, Verdict, Go, Session, makes_set, has_writers, verdict_of, owner_only, check_other, goes_beside_agenda, is_start}
 use Rattle.vss_model.proofs.Terms.{nat_tests, common_steps, Context, VssResult, AsyncCancelled, Mark, Write, dropped, Answer, said_of, open_group, next_volume}
 use Rattle.vss_model.proofs.Terms.{is_asking, is_working, change_at, Fill, Stamp, payload_bytes, Pair, Names, naming, Mode, Refused, context_of, opened, check}
-use Rattle.vss_model.proofs.Terms.{check_begin, Op, WriteFill, WriteStamp, Read, ImageDigest, ImageBlock, Query, Properties, Revert, DeleteSet, DeleteImage}
-use Rattle.vss_model.proofs.Terms.{Tick, Begin, Disable, Component, Document, Start, Add, Await, Status, Abort, End, begins_agenda, DeletesSet, DeletesImage}
-use Rattle.vss_model.proofs.Terms.{Calls, target_of, Plan, token, acts_as, Event, Line, Provider, Idle, Reply, Fine, Deleted, Idled, State, SetRow, Kept}
-use Rattle.vss_model.proofs.Terms.{in_progress, left_now, is_held, kept_image, is_kept_set, runs, is_in_set, revert_refusal, revert_reply, delete_image_reply}
-use Rattle.vss_model.proofs.Terms.{with_volume, known_metas, add_refusal, component_reply, fine_unless, add_reply, call_reply, judged_reply, line_ticks, Act}
-use Rattle.vss_model.proofs.Terms.{order_of_writer, is_free, line_enabled, enabled, idle_now, answer_reply, step_reply, reply, LetsGo, is_fine, is_numbered}
+use Rattle.vss_model.proofs.Terms.{Op, WriteFill, WriteStamp, Read, ImageDigest, ImageBlock, Query, Properties, Revert, DeleteSet, DeleteImage, Tick, Begin}
+use Rattle.vss_model.proofs.Terms.{Disable, Component, Document, Start, Add, Await, Status, Abort, End, begins_agenda, DeletesSet, DeletesImage, Calls}
+use Rattle.vss_model.proofs.Terms.{target_of, Plan, token, Event, Line, Provider, Idle, Reply, Fine, Deleted, Idled, State, SetRow, Kept, in_progress}
+use Rattle.vss_model.proofs.Terms.{left_now, is_held, kept_image, is_kept_set, runs, revert_refusal, revert_reply, delete_image_reply, with_volume}
+use Rattle.vss_model.proofs.Terms.{known_metas, add_refusal, component_reply, fine_unless, add_reply, call_reply, judged_reply, line_ticks, Act}
+use Rattle.vss_model.proofs.Terms.{order_of_writer, line_enabled, enabled, idle_now, answer_reply, step_reply, reply, LetsGo, is_fine, is_numbered}
 use Rattle.vss_model.proofs.Terms.{is_pending_code, is_pending, leaves_all, BadState, Coded, Course, has_no_volume, volumes_of, selected, takers, prepared}
-use Rattle.vss_model.proofs.Terms.{snapshot_begun}
+use Rattle.vss_model.proofs.Terms.{snapshot_begun, Does, AnswerEvent}
+use Rattle.requestor.specs.declared.session_call.SessionCall.TheVariants as call
 
 -- ## What is known where the checks let a session call go.
 
@@ -144,12 +142,6 @@ owner_refuses b v why f e = grind arith
 other_refuses : (q : Option Session) (running : Bool) (lane : ℕ) (c : SessionCall) (why : VssResult) → check_other q running lane c ≡ Refused why → is_pending_code why ≡ false
 other_refuses q running lane c why e = grind (arith, common_steps, other_reason, owner_refuses, verdict_refuses)
 
-begin_refuses : (q : Option Session) (lane : ℕ) (why : VssResult) → check_begin q lane ≡ Refused why → is_pending_code why ≡ false
-begin_refuses q lane why e = grind (arith, other_reason)
-
-not_held : (held free : Bool) → (not held && free) ≡ true → held ≡ false
-not_held held free e = grind arith
-
 -- and one that changes no session
 other_line : (op : Op) (told : Reply) → may_change op ≡ false → ChangesNothing op told
 other_line op told e = grind arith
@@ -183,23 +175,11 @@ module _ (P : Event → Mark → Replied → Type 0) (s : Plan) (st : State) (k 
 
   -- ## session calls
 
-  on_begin_line : (lane n : ℕ) (all : Bool) (q : Option Session) (mark : Mark) → st.session ≡ q → P (Line lane (Begin n all)) mark (line_in s lane (Begin n all) q st)
-  on_begin_line lane n all q mark e = grind arith
-
-  on_component : (lane w : ℕ) (full : Span) (q : Session) (mode : Mode) (mark : Mark) → LetsGo call.Component q st → P (Line lane (Component w full)) mark (component_in mode s w (token s full) st)
-  on_component lane w full q mode mark g = grind arith
-
-  on_add : (lane v : ℕ) (o : Option SetRow) (q : Session) (mark : Mark) → LetsGo call.Add q st → in_progress st ≡ o → P (Line lane (Add v)) mark (add v o st)
-  on_add lane v o q mark g e = grind arith
-
   -- a call that wants a volume in the set
   on_volumes : (lane : ℕ) (op : Op) (c : Course) (mark : Mark) (b : Bool) → line_ticks op ≡ None → (b ≡ false → P (Line lane op) mark (pending c st))
       → P (Line lane op) mark (if b then refused BadState st else pending c st)
   on_volumes lane op c mark true e goes = k.stays lane op mark (Coded BadState) e (record { agenda = λ f. refl; session = λ f. refl; set = λ f. refl; refused = λ f. refl })
   on_volumes lane op c mark false e goes = goes refl
-
-  on_await : (lane : ℕ) (last : Option VssResult) (mark : Mark) → P (Line lane Await) mark (await_last last st)
-  on_await lane last mark = grind arith
 
   on_judged : (v : Verdict) (lane : ℕ) (op : Op) (mark : Mark) → line_ticks op ≡ None → ((why : VssResult) → v ≡ Refused why → is_pending_code why ≡ false)
       → (v ≡ Go → P (Line lane op) mark (line_in s lane op st.session st)) → P (Line lane op) mark (judged v s lane op st)
@@ -225,8 +205,8 @@ module _ (P : Event → Mark → Replied → Type 0) (s : Plan) (st : State) (k 
   -- ## every act
 
   on_line : (lane : ℕ) (op : Op) (mark : Mark) → line_enabled s st lane op ≡ true → P (Line lane op) mark (line s lane op mark st)
-  on_line lane (WriteFill v b x) mark e = k.writes lane (WriteFill v b x) v (record { block = b; bytes = payload_bytes (Fill x) }) mark refl (not_held (is_held st v) (is_free st (acts_as s lane)) e)
-  on_line lane (WriteStamp v b n) mark e = k.writes lane (WriteStamp v b n) v (record { block = b; bytes = payload_bytes (Stamp n) }) mark refl (not_held (is_held st v) (is_free st (acts_as s lane)) e)
+  on_line lane (WriteFill v b x) mark e = k.writes lane (WriteFill v b x) v (record { block = b; bytes = payload_bytes (Fill x) }) mark refl (grind arith)
+  on_line lane (WriteStamp v b n) mark e = k.writes lane (WriteStamp v b n) v (record { block = b; bytes = payload_bytes (Stamp n) }) mark refl (grind arith)
   on_line lane (Read v b) mark e = k.stays lane (Read v b) mark _ refl (other_line (Read v b) _ refl)
   on_line lane (ImageDigest n v) mark e = on_image_blocks lane n v (kept_image st n v) mark
   on_line lane (ImageBlock n v b) mark e = on_image_block lane n v b (kept_image st n v) mark
@@ -236,18 +216,18 @@ module _ (P : Event → Mark → Replied → Type 0) (s : Plan) (st : State) (k 
   on_line lane (DeleteSet n) mark e = on_delete_set lane n mark
   on_line lane (DeleteImage n v) mark e = on_delete_image lane n v mark
   on_line lane (Tick n) mark e = k.ticks lane n mark
-  on_line lane (Begin n all) mark e = on_called (call.Begin n all) lane (Begin n all) mark refl (begin_refuses st.session lane) (λ g. on_begin_line lane n all st.session mark refl)
+  on_line lane (Begin n all) mark e = on_called (call.Begin n all) lane (Begin n all) mark refl (λ why y. grind (arith, other_reason)) (λ g. grind arith)
   on_line lane (Disable w) mark e = on_owned call.Disable lane (Disable w) mark refl refl (λ g. k.disables lane w g.own mark (quiet_of call.Disable g refl))
   on_line lane Gather mark e = on_owned call.Gather lane Gather mark refl refl (λ g. k.gathers lane g.own mark (quiet_of call.Gather g refl))
-  on_line lane (Component w full) mark e = on_owned call.Component lane (Component w full) mark refl refl (λ g. on_component lane w full g.own g.own.mode mark (quiet_of call.Component g refl))
+  on_line lane (Component w full) mark e = on_owned call.Component lane (Component w full) mark refl refl (λ g. grind (arith, quiet_of call.Component g refl))
   on_line lane Document mark e = on_owned call.Document lane Document mark refl refl (λ g. k.stays lane Document mark _ refl (other_line Document _ refl))
   on_line lane Start mark e = on_owned call.Start lane Start mark refl refl (λ g. k.starts lane g.own mark (quiet_of call.Start g refl) (g.free refl))
-  on_line lane (Add v) mark e = on_owned call.Add lane (Add v) mark refl refl (λ g. on_add lane v (in_progress st) g.own mark (quiet_of call.Add g refl) refl)
+  on_line lane (Add v) mark e = on_owned call.Add lane (Add v) mark refl refl (λ g. grind (arith, quiet_of call.Add g refl))
   on_line lane Prepare mark e =
       on_owned call.Prepare lane Prepare mark refl refl (λ g. on_volumes lane Prepare _ mark (has_no_volume (in_progress st)) refl (k.prepares lane g.own mark (quiet_of call.Prepare g refl)))
   on_line lane Snapshot mark e =
       on_owned call.Snapshot lane Snapshot mark refl refl (λ g. on_volumes lane Snapshot _ mark (has_no_volume (in_progress st)) refl (k.snapshots lane g.own mark (quiet_of call.Snapshot g refl)))
-  on_line lane Await mark e = on_owned call.Await lane Await mark refl refl (λ g. on_await lane g.own.last mark)
+  on_line lane Await mark e = on_owned call.Await lane Await mark refl refl (λ g. grind arith)
   on_line lane Status mark e = on_owned call.Status lane Status mark refl refl (λ g. k.stays lane Status mark _ refl (other_line Status _ refl))
   on_line lane Complete mark e = on_owned call.Complete lane Complete mark refl refl (λ g. k.completes lane g.own mark (quiet_of call.Complete g refl))
   on_line lane Abort mark e = on_owned call.Abort lane Abort mark refl refl (λ g. k.aborts lane g.own mark g.is)
@@ -257,9 +237,6 @@ module _ (P : Event → Mark → Replied → Type 0) (s : Plan) (st : State) (k 
   covered event mark e = grind (arith, on_line)
 
 -- ## its reply
-
-if_told : (b : Bool) (x y : Replied) → (if b then x.0 else y.0) ≡ (if b then x else y).0
-if_told b x y = grind arith
 
 module _ (s : Plan) (st : State) where
   told_revert : (v : ℕ) (kept : Option Kept) (mark : Mark) → revert_reply (revert_refusal v kept st) mark ≡ (revert_to s v (revert_refusal v kept st) kept mark st).0
@@ -278,7 +255,7 @@ module _ (s : Plan) (st : State) where
     of_refusal why = grind arith
 
   pub told_call : (lane : ℕ) (o : Op) (q : Option Session) → call_reply s o q st ≡ (line_in s lane o q st).0
-  told_call lane o q = grind (arith, common_steps, nat_tests, told_component, told_add, if_told)
+  told_call lane o q = grind (arith, common_steps, nat_tests, told_component, told_add)
 
   told_judged : (v : Verdict) (lane : ℕ) (o : Op) → judged_reply v s o st ≡ (judged v s lane o st).0
   told_judged v lane o = grind (arith, told_call)
@@ -295,7 +272,3 @@ module _ (s : Plan) (st : State) where
   reply_is act = grind (arith, told_line)
 
 -- ## reverts
-
--- a volume that may be reverted is in no set in progress
-pub no_set_of : (st : State) (v : ℕ) (k : Kept) → revert_refusal v (Some k) st ≡ None → is_in_set v (in_progress st) ≡ false
-no_set_of st v k e = grind (arith, common_steps, nat_tests)

@@ -2,20 +2,19 @@
 use Rattle.std.proofs.Common.{◌≡◌, ℕ, List, [], ◌∷◌, ◌++◌, Option, Some, None, refl, Bool, true, false, sym, subst, arith, min, fold, filter, ◌∙◌}
 use Rattle.std.specs.Prelude.{◌&&◌, not, ◌||◌, if◌then◌else◌, slice_get}
 use Rattle.vss_model.proofs.Terms.{nat_tests, common_steps, Order, SetOutcome, VssResult, Said, is_ok, Mark, Write, Group, Limit, Kind, Member, left}
-use Rattle.vss_model.proofs.Terms.{open_order, open_group, order_now, spent_of, Course, posted, settled, outcome_after, begun, is_decisive, told, decided}
-use Rattle.vss_model.proofs.Terms.{answered as course_answered, worked, stepped as course_stepped, limits_now, lost_to, lost, fails_set, lost_decided}
-use Rattle.vss_model.proofs.Terms.{treated_as, treated, Mode, SessionCall, Verdict, Session, check, check_other, Op, WriteFill, WriteStamp, Read, ImageDigest}
-use Rattle.vss_model.proofs.Terms.{ImageBlock, Query, Properties, Revert, DeleteSet, DeleteImage, Tick, Abort, End, Plan, Event, State, SetRow, Kept}
-use Rattle.vss_model.proofs.Terms.{in_progress, row_of, left_now, kept_image, runs, set_loses_image, is_flush, is_failed_step, Act, after, state, NumberedFrom}
-use Rattle.vss_model.proofs.Terms.{IsOfSession, has_failed, is_live, is_late_in, is_late, is_flush_step, owns, line_gives_cause, gives_cause, list_any}
-use Rattle.vss_model.proofs.Terms.{and_from, or_right, WriterRow, answer_limit, hold_limit, default_freeze, is_spent, Agenda, Entry, Open, order_of, last_time}
-use Rattle.vss_model.proofs.Terms.{opened_at, freeze_opened_at, is_hold, first_time, first_hold, hold_runs, freeze_runs, answer_runs, runs_if, hold_running}
-use Rattle.vss_model.proofs.Terms.{running_at, running_limits, limit_of, freeze_limit, has_passed, last_of, holds_volumes, is_hold_step, held_too_long}
-use Rattle.vss_model.proofs.Terms.{freezes_writers, prepares_snapshot, frozen_too_long, is_elsewhere, unanswered_too_long, is_late_at, IsSpentHere, spent_here}
+use Rattle.vss_model.proofs.Terms.{open_order, open_group, order_now, spent_of, Course, posted, settled, outcome_after, begun, is_decisive, told}
+use Rattle.vss_model.proofs.Terms.{answered as course_answered, worked, stepped as course_stepped, limits_now, lost, fails_set, lost_decided, treated_as}
+use Rattle.vss_model.proofs.Terms.{treated, SessionCall, Verdict, Session, check, Op, WriteFill, WriteStamp, Read, ImageDigest, ImageBlock, Query}
+use Rattle.vss_model.proofs.Terms.{Properties, Revert, DeleteSet, DeleteImage, Tick, Abort, End, Plan, State, SetRow, Kept, in_progress, row_of, left_now}
+use Rattle.vss_model.proofs.Terms.{kept_image, runs, set_loses_image, is_flush, is_failed_step, Act, after, state, NumberedFrom, IsOfSession, has_failed}
+use Rattle.vss_model.proofs.Terms.{is_live, is_late_in, is_late, is_flush_step, owns, line_gives_cause, gives_cause, list_any, and_from, or_right, WriterRow}
+use Rattle.vss_model.proofs.Terms.{hold_limit, default_freeze, is_spent, Agenda, Entry, Open, order_of, last_time, opened_at, freeze_opened_at, is_hold}
+use Rattle.vss_model.proofs.Terms.{first_time, first_hold, hold_runs, freeze_runs, runs_if, hold_running, running_at, limit_of, freeze_limit}
+use Rattle.vss_model.proofs.Terms.{has_passed, last_of, holds_volumes, is_hold_step, held_too_long, freezes_writers, prepares_snapshot, frozen_too_long}
+use Rattle.vss_model.proofs.Terms.{is_elsewhere, unanswered_too_long, is_late_at, IsSpentHere, spent_here, RunningLimit, RunningLimit as Running}
 use Rattle.set_agenda.specs.declared.limit.Limit.TheVariants.{Answer as AnswerLimit, Hold as HoldLimit, Freeze as FreezeLimit}
-use Rattle.set_agenda.specs.Limits.{Running as RunningLimit, Running}
-use Rattle.vss_model.proofs.StateForm.{followed, cleared, write, image_block, image_blocks, properties, delete_set, delete_image, revert, component_in, add}
-use Rattle.vss_model.proofs.StateForm.{await_last, line_in, judged, step_made, answered, stepped, ticked, called, line, happens}
+use Rattle.vss_model.proofs.StateForm.{followed, cleared, write, image_block, image_blocks, properties, delete_set, delete_image, revert}
+use Rattle.vss_model.proofs.StateForm.{await_last, line_in, judged, step_made, answered, stepped, ticked, called, line}
 use Rattle.vss_model.specs.Causes.{is_fault}
 use Rattle.vss_model.proofs.Appending.{state-append}
 use Rattle.vss_model.proofs.Headline.{failed_not_live}
@@ -44,18 +43,11 @@ last_time_is : (test : Entry → Bool) (t : ℕ) (log : List Entry) → last_tim
 last_time_is test t [] = refl
 last_time_is test t (e ∷ log) = let ih = last_time_is test e.time log in let ih1 = last_time_is test t log in grind (arith, common_steps)
 
--- a fold by tests that agree
-fold_along : (f g : Entry → Bool) → ((e : Entry) → f e ≡ g e) → (t : ℕ) (log : List Entry) → fold (λ t (e : Entry). if f e then e.time else t) t log ≡ fold (λ t (e : Entry). if g e then e.time else t) t log
-fold_along f g same t log = grind arith
-
 pub freeze_since : (a : Agenda) → freeze_opened_at a ≡ last_of (λ e. prepares_snapshot e.place.group) a
-freeze_since a = grind (arith, common_steps, last_time_is, fold_along)
+freeze_since a = grind (arith, common_steps, last_time_is)
 
 pub answer_since : (a : Agenda) (o : Open) → opened_at a o ≡ last_of (is_elsewhere o.place) a
-answer_since a o = grind (arith, common_steps, last_time_is, fold_along)
-
-spent_passed : (now since limit : ℕ) → is_spent now since limit ≡ true → has_passed limit since now ≡ true
-spent_passed now since limit e = grind arith
+answer_since a o = grind (arith, common_steps, last_time_is)
 
 -- ## which limit is spent
 
@@ -88,13 +80,13 @@ pub hold_late : (now : ℕ) (g : Group) (a : Agenda) (o : Option ℕ) (l : Runni
 hold_late now g a None l e f = absurd cc
 hold_late now g a (Some since) l e f =
     let one = spent_one (hold_runs g) HoldLimit since hold_limit now l f in
-    and_from (holds_volumes g) _ (sym (same_hold g) ∙ one.runs) (first_passed now since a.log e (spent_passed now since hold_limit one.spent))
+    and_from (holds_volumes g) _ (sym (same_hold g) ∙ one.runs) (first_passed now since a.log e (grind (arith, one.spent)))
 
 -- ## frozen
 
 least_passed : (now since least : ℕ) (rows : List WriterRow) (ms : List Member) → is_spent now since (fold (λ l (m : Member). min l (limit_of (slice_get rows m.writer))) least ms) ≡ true
     → (has_passed least since now || list_any (λ (m : Member). has_passed (limit_of (slice_get rows m.writer)) since now) ms) ≡ true
-least_passed now since least rows [] e = grind (arith, common_steps, spent_passed)
+least_passed now since least rows [] e = grind (arith, common_steps)
 least_passed now since least rows (m ∷ ms) e =
     let ih = least_passed now since (min least (limit_of (slice_get rows m.writer))) rows ms e in grind (arith, common_steps)
 
@@ -105,9 +97,6 @@ freeze_late now g c a l e =
     (least_passed now (last_of (λ x. prepares_snapshot x.place.group) a) default_freeze c.rows c.members (subst (λ t. is_spent now t (freeze_limit c) ≡ true) (freeze_since a) one.spent))
 
 -- ## unanswered
-
-answer_late : (now : ℕ) (a : Agenda) (o : Open) (l : Running) → spent_of now (runs_if (answer_runs o.place.group) AnswerLimit (opened_at a o) answer_limit) ≡ Some l → fails_set (order_of o.place.group) ≡ true → unanswered_too_long now o.place a ≡ true
-answer_late now a o l e f = grind (arith, common_steps, spent_one, and_from, answer_since, spent_passed)
 
 -- ## the spent limit
 
@@ -132,15 +121,12 @@ late_open now c a o os l e d = by_limit l.limit d (spent_here now (freeze_limit 
   by_limit HoldLimit d h =
       or_first (held_too_long now o.place.group a) (frozen_too_long now o.place.group c a) (unanswered_too_long now o.place a) (hold_late now o.place.group a (first_hold a.log) l refl h)
   by_limit FreezeLimit d h = or_second (held_too_long now o.place.group a) (frozen_too_long now o.place.group c a) (unanswered_too_long now o.place a) (freeze_late now o.place.group c a l h.1)
-  by_limit AnswerLimit d h = or_third (held_too_long now o.place.group a) (frozen_too_long now o.place.group c a) (unanswered_too_long now o.place a) (answer_late now a o l h.2 d)
+  by_limit AnswerLimit d h = or_third (held_too_long now o.place.group a) (frozen_too_long now o.place.group c a) (unanswered_too_long now o.place a)
+      (grind (arith, common_steps, spent_one, and_from, answer_since, h.2))
 
 late_left : (now : ℕ) (c : Course) (a : Agenda) (os : List Open) (l : Running) → spent_of now (running_at (freeze_limit c) a os) ≡ Some l → Decides l.limit (order_now os) → is_late_at now c a os ≡ true
 late_left now c a [] l e d = absurd cc
 late_left now c a (o ∷ os) l e d = late_open now c a o os l e d
-
--- a spent limit that fails the set is a cause
-pub late : (now : ℕ) (c : Course) (a : Option Agenda) (l : Running) → spent_of now (running_limits (freeze_limit c) a) ≡ Some l → Decides l.limit (order_now (left a)) → is_late_in now c a ≡ true
-late now c a l e d = grind (arith, late_left)
 
 -- ## courses
 
@@ -166,30 +152,26 @@ none_worked : (now : ℕ) (c : Course) → Fails c ≡ false → Fails (worked n
 unfolding worked
 none_worked now c h = h
 
-none_decided : (b : Bool) (said : Said) (c : Course) → b ≡ false → Fails c ≡ false → Fails (decided b said c) ≡ false
-none_decided b said c e h = grind (arith, none_settled)
-
 abbrev is_decisive_order : Option Order → Bool
 is_decisive_order None = false
 is_decisive_order (Some o) = is_decisive o
 
 none_answered : (w : ℕ) (said : Said) (now : ℕ) (c : Course) → (is_decisive_order (open_order (left c.agenda) w) && not (is_ok said)) ≡ false → Fails c ≡ false → Fails (course_answered w said now c) ≡ false
-none_answered w said now c e h = grind (arith, common_steps, nat_tests, none_posted, none_decided, none_told)
+none_answered w said now c e h = grind (arith, common_steps, nat_tests, none_posted, none_told, none_settled)
 
 none_stepped : (now : ℕ) (c : Course) → Fails c ≡ false → Fails (course_stepped true now c) ≡ false
 none_stepped now c h = none_posted c _ (none_settled (worked now c) (none_worked now c h))
 
-none_lost_to : (o : Option Order) (now : ℕ) (c : Course) → Fails c ≡ false → Fails (lost_to o now c) ≡ false
-none_lost_to o now c h = grind (arith, none_told)
-
 -- where nothing takes too long, a spent limit loses answers alone
 none_lost : (b : Bool) (now : ℕ) (c : Course) (l : RunningLimit) → fails_set (order_now (left c.agenda)) ≡ b → spent_of now (limits_now c) ≡ Some l → l.limit ≡ AnswerLimit → is_late_in now c c.agenda ≡ false → Fails c ≡ false → Fails (lost_decided b (lost now c)) ≡ false
-none_lost true now c l d e f g h = absurd (true_not_false (is_late_in now c c.agenda) (late now c c.agenda l e (subst (λ x. Decides x (order_now (left c.agenda))) (sym f) d)) g)
-none_lost false now c l d e f g h = none_settled (lost now c) (none_lost_to (order_now (left c.agenda)) now c h)
+none_lost true now c l d e f g h = absurd
+    (true_not_false (is_late_in now c c.agenda) (grind (arith, late_left, subst (λ x. Decides x (order_now (left c.agenda))) (sym f) d)) g)
+none_lost false now c l d e f g h = none_settled (lost now c) (grind (arith, none_told))
 
 none_treated_as : (x : Limit) (now : ℕ) (c : Course) (l : RunningLimit) → l.limit ≡ x → spent_of now (limits_now c) ≡ Some l → is_late_in now c c.agenda ≡ false → Fails c ≡ false → Fails (treated_as x now c) ≡ false
 none_treated_as AnswerLimit now c l f e g h = none_lost (fails_set (order_now (left c.agenda))) now c l refl e f g h
-none_treated_as _ now c l f e g h = absurd (true_not_false (is_late_in now c c.agenda) (late now c c.agenda l e (subst (λ x. Decides x (order_now (left c.agenda))) (sym f) tt)) g)
+none_treated_as _ now c l f e g h = absurd
+    (true_not_false (is_late_in now c c.agenda) (grind (arith, late_left, subst (λ x. Decides x (order_now (left c.agenda))) (sym f) tt)) g)
 
 none_treated : (o : Option RunningLimit) (now : ℕ) (c : Course) → spent_of now (limits_now c) ≡ o → is_late_in now c c.agenda ≡ false → Fails c ≡ false → Fails (treated o now c) ≡ false
 none_treated None now c e g h = h
@@ -262,30 +244,21 @@ module _ (n : ℕ) where
   unfolding revert
   live_revert s m v mark st h = grind (arith, common_steps, nat_tests)
 
-  live_component : (mode : Mode) (s : Plan) (w : ℕ) (name : List ℕ) (st : State) → IsLive n st → IsLive n (component_in mode s w name st).1
-  live_component mode s w name st h = grind arith
-
-  live_add : (v : ℕ) (o : Option SetRow) (st : State) → IsLive n st → IsLive n (add v o st).1
-  live_add v o st h = grind (arith, common_steps, live-map, same_changed)
-
   live_await : (last : Option VssResult) (st : State) → IsLive n st → IsLive n (await_last last st).1
   live_await last st h = grind arith
-
-  live_refused : (q : Option Session) (s : Plan) (lane : ℕ) (call : SessionCall) (op : Op) (st : State) → owns q lane ≡ false → IsLive n st → IsLive n (judged (check_other q (runs st) lane call) s lane op st).1
-  live_refused q s lane call op st e h = grind arith
 
   -- `abort` and `end` of a lane that does not own the session
   live_abort : (s : Plan) (lane : ℕ) (st : State) → owns st.session lane ≡ false → IsLive n st → IsLive n (called call.Abort s lane Abort st).1
   unfolding called
-  live_abort s lane st e h = live_refused st.session s lane call.Abort Abort st e h
+  live_abort s lane st e h = grind arith
 
   live_end : (s : Plan) (lane : ℕ) (st : State) → owns st.session lane ≡ false → IsLive n st → IsLive n (called call.End s lane End st).1
   unfolding called
-  live_end s lane st e h = live_refused st.session s lane call.End End st e h
+  live_end s lane st e h = grind arith
 
   live_line_in : (s : Plan) (lane : ℕ) (op : Op) (q : Option Session) (st : State) → stops op ≡ false → Fails st.course ≡ false → IsLive n st → IsLive n (line_in s lane op q st).1
   live_line_in s lane op q st e f h =
-      grind (arith, common_steps, nat_tests, live_followed, none_begun, live_component, live_append, live_add, by_if, live_await)
+      grind (arith, common_steps, nat_tests, live_followed, none_begun, live_append, by_if, live_await, live-map, same_changed)
 
   live_judged : (v : Verdict) (s : Plan) (lane : ℕ) (op : Op) (st : State) → stops op ≡ false → Fails st.course ≡ false → IsLive n st → IsLive n (judged v s lane op st).1
   live_judged v s lane op st e f h = grind (arith, live_line_in)
@@ -312,15 +285,8 @@ module _ (n : ℕ) where
 
   -- ## every act
 
-  live_happens : (s : Plan) (event : Event) (mark : Mark) (st : State) → gives_cause s st event mark ≡ false → Fails st.course ≡ false → IsLive n st → IsLive n (happens s event mark st).1
-  live_happens s event mark st e f h = grind (arith, common_steps, live_line, live_answers, none_answered, live_steps, same_flush, live_ticks)
-
   live_after : (s : Plan) (st : State) (act : Act) → gives_cause s st act.event act.mark ≡ false → Fails st.course ≡ false → IsLive n st → IsLive n (after s st act)
-  live_after s st act e f h = grind (arith, common_steps, nat_tests, after_is, live_happens)
-
--- while a set is in progress, the course has not failed
-pub outcome_running : (q : Option Session) (o : SetOutcome) (r : SetRow) → IsOfSession q o (Some r) → has_failed o ≡ false
-outcome_running q o r h = grind arith
+  live_after s st act e f h = grind (arith, common_steps, nat_tests, after_is, live_line, live_answers, none_answered, live_steps, same_flush, live_ticks)
 
 by_cause : (b : Bool) (s : Plan) (so_far : List Act) (act : Act) (r q : SetRow) → gives_cause s (state s so_far) act.event act.mark ≡ b → in_progress (state s so_far) ≡ Some r
     → row_of (after s (state s so_far) act) r.number ≡ Some q → has_failed q.result ≡ true → NumberedFrom 1 (after s (state s so_far) act).sets → b ≡ true
@@ -328,7 +294,7 @@ by_cause true s so_far act r q e f g h i = refl
 by_cause false s so_far act r q e f g h i =
     let st = state s so_far in
     let kept = orderly s so_far in
-    let running : Fails st.course ≡ false = outcome_running st.session st.course.outcome r (subst (IsOfSession st.session st.course.outcome) f kept.session) in
+    let running : Fails st.course ≡ false = grind (arith, subst (IsOfSession st.session st.course.outcome) f kept.session) in
     let live = live_after r.number s st act e running (live_found st.sets r f) in
     absurd (true_not_false (is_live (after s st act).sets r.number) live (failed_not_live 1 r.number (after s st act).sets q i g h))
 

@@ -1,36 +1,33 @@
 -- The state after an act is that after its changes, and what is known of each change where it comes: `e` and `m` are the event
 -- and the mark of the act, `st` the state before it, and `x` that to which the change is applied.
 use Rattle.std.proofs.Common.{◌≡◌, ◌∙◌, ℕ, List, [], ◌∷◌, ◌++◌, ◌+◌, fold, length, Option, Some, None, refl, Bool, true, false, sym, subst, ap, inl, inr, arith}
-use Rattle.std.specs.Prelude.{◌⊎◌, ◌&&◌, not, if◌then◌else◌, option_map, is_some, nat_le}
-use Rattle.vss_model.proofs.Terms.{nat_tests, fold-append, common_steps, Context, Backup, AppRollback, NasRollback, Order, SetOutcome, VssResult}
-use Rattle.vss_model.proofs.Terms.{AsyncCancelled, AsyncPending, BadState, ObjectAlreadyExists, MaximumNumberOfVolumesReached, MaximumNumberOfSnapshotsReached}
-use Rattle.vss_model.proofs.Terms.{payload_bytes, Mark, Clean, FaultAfter, Write, Said, Answer, said_of, Group, Cut, Commit, Gather, Prepare, Snapshot}
-use Rattle.vss_model.proofs.Terms.{Complete, Agenda, left, open_group, next_volume, is_working, IsKeptFrom, from_answered, from_stepped, from_timed, from_begun}
-use Rattle.vss_model.proofs.Terms.{Course, posted, told, worked, answered as course_answered, stepped as course_stepped, timed, gathered, prepared}
+use Rattle.std.specs.Prelude.{◌⊎◌, ◌&&◌, not, if◌then◌else◌, option_map, is_some}
+use Rattle.vss_model.proofs.Terms.{nat_tests, fold-append, common_steps, Context, Backup, AppRollback, NasRollback, SetOutcome, VssResult, AsyncCancelled}
+use Rattle.vss_model.proofs.Terms.{AsyncPending, BadState, payload_bytes, Mark, Clean, FaultAfter, Write, Said, said_of, Group, Cut, Commit, Gather, Prepare}
+use Rattle.vss_model.proofs.Terms.{Snapshot, Complete, Agenda, left, open_group, next_volume, is_working, IsKeptFrom, from_answered, from_stepped, from_timed}
+use Rattle.vss_model.proofs.Terms.{from_begun, Course, posted, told, worked, answered as course_answered, stepped as course_stepped, timed, gathered, prepared}
 use Rattle.vss_model.proofs.Terms.{snapshot_begun, completing, failed as course_failed, released, Pair, Naming, Names as NamesNow, naming, takers, SessionCall}
 use Rattle.vss_model.proofs.Terms.{Mode, Session, makes_set, opened, started, agenda_ended, set_failed, Op, Target, target_in, line_of, Plan, token, Event}
-use Rattle.vss_model.proofs.Terms.{Line, Provider, Idle, Reply, Coded, is_pending_code, leaves_all, State, SetRow, Kept, in_progress, history_of, left_now}
-use Rattle.vss_model.proofs.Terms.{is_held, kept_image, Ending, NothingEnds, AgendaEnds, SetFails, ending, runs, is_in_set, is_disabled, known_metas, selected}
-use Rattle.vss_model.proofs.Terms.{new_number, new_set, add_refusal, most_images, most_volumes, has_no_volume, volumes_of, naming_reply, component_reply}
-use Rattle.vss_model.proofs.Terms.{fine_unless, add_reply, await_reply, session_reply, first_reply, call_reply, is_flush, is_failed_step, row_cut, ticks_of}
-use Rattle.vss_model.proofs.Terms.{Act, enabled, reply, changes, after, order_of_writer, idle_now, answer_reply, step_reply, is_provider, is_cut_group, LetsGo}
-use Rattle.vss_model.proofs.Terms.{Change, Passes, SessionIs, StartsSet, AddsVolume, IsCutAt, CourseIs, Settles, Writes, Reverts, RevertsPart, DropsSet, Drops}
-use Rattle.vss_model.proofs.Terms.{apply, drops, ends, goes_on, fails, makes_room, puts, reverts, deletes, names, adds, releases, closes, calls, session_calls}
-use Rattle.vss_model.proofs.Terms.{opens_as, passes, cuts, makes, steps, next_step, answers, does_change, event_changes, after_changes, begins, made_at}
+use Rattle.vss_model.proofs.Terms.{Line, Provider, Idle, Reply, Coded, leaves_all, State, SetRow, Kept, in_progress, left_now, is_held, kept_image, Ending}
+use Rattle.vss_model.proofs.Terms.{NothingEnds, AgendaEnds, SetFails, ending, runs, is_in_set, is_disabled, known_metas, selected, new_number, new_set}
+use Rattle.vss_model.proofs.Terms.{add_refusal, has_no_volume, volumes_of, naming_reply, component_reply, add_reply, await_reply, session_reply, first_reply}
+use Rattle.vss_model.proofs.Terms.{call_reply, is_flush, is_failed_step, ticks_of, Act, enabled, reply, changes, after, order_of_writer, idle_now, is_provider}
+use Rattle.vss_model.proofs.Terms.{is_cut_group, LetsGo, Change, Passes, SessionIs, StartsSet, AddsVolume, IsCutAt, CourseIs, Settles, Writes, Reverts}
+use Rattle.vss_model.proofs.Terms.{RevertsPart, DropsSet, Drops, apply, drops, ends, goes_on, fails, makes_room, puts, reverts, deletes, names, adds, releases}
+use Rattle.vss_model.proofs.Terms.{closes, calls, session_calls, opens_as, passes, cuts, makes, steps, next_step, answers, does_change, event_changes}
+use Rattle.vss_model.proofs.Terms.{after_changes, begins, made_at, Does, AnswerEvent}
 use Rattle.block_data.specs.declared.payload.Payload.{Payload}
-use Rattle.requestor.specs.declared.session_call.SessionCall.TheVariants as call
-use Rattle.scenario.specs.declared.line.Line.{Line as Does}
-use Rattle.scenario.specs.declared.line.Line.TheVariants as does
-use Rattle.scenario.specs.declared.op.Op.TheVariants as op
-use Rattle.vss_model.specs.declared.event.Event.TheVariants.{Answer as AnswerEvent}
-use Rattle.vss_model.proofs.StateForm.{concluded, followed, failed_in, failed, Replied, refused, write, reverted_as, pending, closed, cut_set, image_made}
-use Rattle.vss_model.proofs.StateForm.{stepped_as, stepped, later, ticked, answered, does as line_does, happens, after_if, add, add_to, component_in, line_in}
+use Rattle.vss_model.proofs.StateForm.{followed, failed_in, failed, Replied, refused, write, reverted_as, pending, closed, cut_set, image_made}
+use Rattle.vss_model.proofs.StateForm.{stepped_as, stepped, later, ticked, answered, does as line_does, happens, after_if, add, component_in, line_in}
 use Rattle.vss_model.proofs.StateForm.{line_without_session, named_as, session_line, step_made}
-use Rattle.vss_model.specs.Changes as change
 use Rattle.vss_model.specs.Changes.{Names}
-use Rattle.vss_model.proofs.ByEvent.{Covers, Next, covered, some_same, may_change, no_set_of, reply_is, told_call}
+use Rattle.vss_model.proofs.ByEvent.{Covers, Next, covered, some_same, may_change, reply_is, told_call}
 use Rattle.vss_model.proofs.Rows.{number-cut}
 use Rattle.vss_model.proofs.Orderly.{find-map, find-settled_over}
+use Rattle.requestor.specs.declared.session_call.SessionCall.TheVariants as call
+use Rattle.scenario.specs.declared.line.Line.TheVariants as does
+use Rattle.scenario.specs.declared.op.Op.TheVariants as op
+use Rattle.vss_model.specs.Changes as change
 
 -- ## what is known of a change
 
@@ -214,9 +211,6 @@ abbrev EndsNone : Ending → Option Agenda → Type 0
 EndsNone NothingEnds a = Unit {0}
 EndsNone _ a = a ≡ None
 
-ends_none : (o p : SetOutcome) (ran : Bool) (a : Option Agenda) → (p ≡ o) ⊎ (a ≡ None) → EndsNone (ending o p ran a) a
-ends_none o p ran a h = grind arith
-
 -- a call leaves the outcome, or no agenda runs after it
 abbrev Rests : Course → Course → Type 0
 Rests c d = (d.outcome ≡ c.outcome) ⊎ (d.agenda ≡ None)
@@ -239,12 +233,9 @@ rests_called s st _ c i = inr refl
 
 -- ## the course goes on
 
-ends_are : (e : Ending) (c : Course) (x : State) → fold apply (record x { course = c }) (ends e c.outcome x) ≡ concluded e (record x { course = c })
-ends_are e c x = grind (arith, common_steps)
-
 pub goes_on_own : (ran : Bool) (c : Course) (x : State) → fold apply x (goes_on ran c x) ≡ followed ran c x
 unfolding followed
-goes_on_own ran c x = ends_are (ending x.course.outcome c.outcome ran c.agenda) c x
+goes_on_own ran c x = grind (arith, common_steps)
 
 -- the session and the set in progress are the same
 pub record IsAsBefore (x y : State) : Type 0 where
@@ -262,17 +253,14 @@ goes_on_is ran c x y h =
 
 fails_is : (o : Option SetRow) (why : VssResult) (x y : State) → IsAsBefore x y → fold apply x (fails o why y) ≡ failed_in o why x
 unfolding course_failed
-fails_is o why x y h = grind (arith, common_steps, same_ends, ends_are)
-
-as_before : (x : State) → IsAsBefore x x
-as_before x = record { course = refl; session = refl; set = refl }
+fails_is o why x y h = grind (arith, common_steps, same_ends)
 
 closes_is : (q : Session) (x : State) → fold apply x (closes q x) ≡ closed q x
 unfolding closed
 closes_is q x = grind (arith, common_steps)
 
 pub fails_now : (why : VssResult) (st : State) → after_changes st (fails (in_progress st) why st) ≡ failed why st
-fails_now why st = fails_is (in_progress st) why st st (as_before st)
+fails_now why st = fails_is (in_progress st) why st st (record { course = refl; session = refl; set = refl })
 
 pub answers_are : (w : ℕ) (said : Said) (st : State) → after_changes st (answers w said st) ≡ answered w said st
 unfolding answered
@@ -285,21 +273,17 @@ passes_are n st = goes_on_is (runs st) (timed (st.clock + n) st.course) (later n
 pub ends_session : (s : Plan) (q : Session) (st : State) → after_changes st (calls s op.End q st) ≡ closed q (failed AsyncCancelled st)
 ends_session s q st = grind (arith, fold-append, closes_is, fails_now)
 
--- what a step makes
-drops_cut : (n now : ℕ) (o : Option SetRow) → drops (option_map (row_cut n now) o) ≡ drops o
-drops_cut n now o = grind (arith, number-cut)
-
 pub made_are : (g : Option Group) (v : Option ℕ) (st : State) → after_changes st (made_at g v st) ≡ step_made g v st
 made_are g v st = grind arith
 
 as_before_cut : (o : Option SetRow) (st : State) → IsAsBefore (cut_set o st) st
-as_before_cut o st = grind (arith, common_steps, as_before, find-map, drops_cut)
+as_before_cut o st = grind (arith, common_steps, find-map, number-cut)
 
 as_before_made : (o : Option SetRow) (v : Option ℕ) (st : State) → IsAsBefore (image_made o v st) st
 as_before_made o v st = grind arith
 
 pub steps_are : (fault : Bool) (g : Option Group) (v : Option ℕ) (st : State) → after_changes st (steps fault g v st) ≡ stepped_as fault g v st
-steps_are fault g v st = grind (arith, common_steps, goes_on_own, fold-append, made_are, goes_on_is, as_before_cut, as_before_made, as_before)
+steps_are fault g v st = grind (arith, common_steps, goes_on_own, fold-append, made_are, goes_on_is, as_before_cut, as_before_made)
 
 pub next_is : (mark : Mark) (st : State) → after_changes st (next_step mark st) ≡ stepped mark st
 unfolding stepped
@@ -317,7 +301,7 @@ module _ (s : Plan) (e : Event) (m : Mark) (st : State) where
 
   come_on : (ran : Bool) (c : Course) (x y : State) → x.session ≡ y.session → Rests y.course c → IsCalled s e st x c → Come s e m st x (goes_on ran c y)
   come_on ran c x y same h
-      i = (i, come_ends (ending y.course.outcome c.outcome ran c.agenda) (record x { course = c }) y same (ends_none y.course.outcome c.outcome ran c.agenda h))
+      i = (i, come_ends (ending y.course.outcome c.outcome ran c.agenda) (record x { course = c }) y same (grind arith))
 
   come_fails : (o : Option SetRow) (why : VssResult) (x : State) → in_progress st ≡ o → x.course ≡ st.course → x.session ≡ st.session
       → Come s e m st x (fails o why st)
@@ -327,14 +311,6 @@ module _ (s : Plan) (e : Event) (m : Mark) (st : State) where
     record { call = Fails why; is = ap (course_failed why) (sym same); due = (r, (f, same)); stands = tt },
     come_ends (SetFails why) (record x { course = course_failed why st.course }) st session refl,
   )
-
-  -- a set in progress has failed before
-  none_aborted : (o : Option SetRow) → in_progress st ≡ o → in_progress (fold apply st (fails o AsyncCancelled st)) ≡ None
-  none_aborted o f = grind (arith, common_steps, find-settled_over)
-
-  aborted : (o : Option SetRow) → ((fold apply st (fails o AsyncCancelled st)).course ≡ st.course)
-      ⊎ ((fold apply st (fails o AsyncCancelled st)).course ≡ course_failed AsyncCancelled st.course)
-  aborted o = grind arith
 
   come_closes : (q : Session) (x : State) → in_progress x ≡ None → (x.course ≡ st.course) ⊎ (x.course ≡ course_failed AsyncCancelled st.course)
       → Come s e m st x (closes q x)
@@ -363,9 +339,6 @@ module _ (s : Plan) (e : Event) (m : Mark) (st : State) where
     pub is : x ≡ fold apply st cs
     pub come : Come s e m st st cs
 
-  makes_none : Makes st []
-  makes_none = record { is = refl; come = tt }
-
   makes_on : (ran : Bool) (c : CourseCall) → IsDue st st.course c → Stands e st st c
       → Makes (followed ran (called s st c st.course) st) (goes_on ran (called s st c st.course) st)
   makes_on ran c i k = grind (arith, goes_on_own, come_on, rests_called)
@@ -391,15 +364,12 @@ module _ (s : Plan) (e : Event) (m : Mark) (st : State) where
       record {
         is = sym (ends_session s q st);
         come = come-append s e m st st cs (closes q x) (come_fails (in_progress st) AsyncCancelled st refl refl refl)
-            (come_closes q x (none_aborted (in_progress st) refl) (aborted (in_progress st)));
+            (come_closes q x (grind (arith, common_steps, find-settled_over)) (grind arith));
       }
 
   makes_write : (v : ℕ) (w : Write) → (m ≡ Clean → IsWrite e m st v w) → Makes (write s v w m st).1 (makes_room s v w.block st ++ puts v w m)
   unfolding write
   makes_write v w f = grind (arith, common_steps, fold-append, fails_is, come-append, come_fails)
-
-  makes_revert : (lane n v : ℕ) (k : Kept) → e ≡ Line lane (op.Revert n v) → kept_image st n v ≡ Some k → is_in_set v (in_progress st) ≡ false → Makes (reverted_as s v k m st).1 (reverts s v (Some k) m)
-  makes_revert lane n v k f g h = grind (arith, common_steps, makes_none)
 
   -- what a step makes
   abbrev next_of : Bool → Course
@@ -465,27 +435,15 @@ module _ (s : Plan) (st : State) where
   abbrev Happens : Event → Mark → Replied → Type 0
   Happens e m r = r ≡ happens s e m st → Makes s e m st r.1 (answered_by r.0 (event_changes s st e m))
 
-  quiet_call : (lane : ℕ) (o : Op) (q : Option Session) → may_change o ≡ false → session_calls s lane o q st ≡ []
-  quiet_call lane o q e = grind arith
-
   nothing : (b : Bool) (cs : List Change) → cs ≡ [] → (if not b then cs else []) ≡ []
   nothing b cs e = grind arith
 
   stays_quiet : (told : Reply) (lane : ℕ) (o : Op) (m : Mark) (b : Bool) → may_change o ≡ b → (may_change o ≡ true → leaves_all told ≡ true) → answered_by told (event_changes s st (Line lane o) m) ≡ []
-  stays_quiet told lane o m b e refused = grind (arith, common_steps, nothing, quiet_call)
-
-  of_answer : (o : Option Order) (a : Answer) (cs : List Change) → answered_by (answer_reply o a) cs ≡ cs
-  of_answer o a cs = grind arith
-
-  of_step : (g : Option Group) (v : Option ℕ) (m : Mark) (cs : List Change) → answered_by (step_reply g v m) cs ≡ cs
-  of_step g v m cs = grind arith
+  stays_quiet told lane o m b e refused = grind (arith, common_steps, nothing)
 
   of_write : (v : ℕ) (w : Write) (m : Mark) (cs : List Change) → answered_by (write s v w m st).0 cs ≡ cs
   unfolding write
   of_write v w m cs = grind (arith, common_steps, nat_tests)
-
-  of_revert : (v : ℕ) (k : Kept) (m : Mark) (cs : List Change) → answered_by (reverted_as s v k m st).0 cs ≡ cs
-  of_revert v k m cs = grind arith
 
   does_write : (l : Does) (lane : ℕ) (o : Op) (v : ℕ) (b : ℕ) (m : Mark) (r : Replied) → line_of o ≡ l → target_in l ≡ Some (record { volume = v; block = b }) → is_held st v ≡ false → r ≡ line_does s lane o l m st
       → Makes s (Line lane o) m st r.1 (answered_by r.0 (does_change s lane o l m st))
@@ -506,11 +464,13 @@ module _ (s : Plan) (st : State) where
 
   covers : Covers Happens s st
   covers = record {
-    stays = λ lane o m told e f i. subst (Makes s (Line lane o) m st st) (sym (stays_quiet told lane o m (may_change o) refl f.refused)) (makes_none s (Line lane o) m st);
+    stays = λ lane o m told e f i. subst (Makes s (Line lane o) m st st) (sym (stays_quiet told lane o m (may_change o) refl f.refused))
+        (record { is = refl; come = tt });
     writes = λ lane o v w m e f i. does_write (line_of o) lane o v w.block m (write s v w m st) refl e f i;
     reverts = λ lane n v k m e f i.
-        subst (Makes s (Line lane (op.Revert n v)) m st (reverted_as s v k m st).1) (sym (of_revert v k m _))
-        (subst (λ x. Makes s (Line lane (op.Revert n v)) m st (reverted_as s v k m st).1 (reverts s v x m)) (sym e) (makes_revert s (Line lane (op.Revert n v)) m st lane n v k refl e (no_set_of st v k f)));
+        subst (Makes s (Line lane (op.Revert n v)) m st (reverted_as s v k m st).1) (sym (grind arith))
+        (subst (λ x. Makes s (Line lane (op.Revert n v)) m st (reverted_as s v k m st).1 (reverts s v x m)) (sym e)
+        (grind (arith, common_steps, nat_tests)));
     deletes_set = λ lane n c m e i. one (Line lane (op.DeleteSet n)) m (DropsSet n) tt;
     deletes_image = λ lane n v k m e i.
         subst (λ x. Makes s (Line lane (op.DeleteImage n v)) m st (apply st (Drops k.row.number v)) (deletes v x)) (sym e) (one (Line lane (op.DeleteImage n v)) m (Drops k.row.number v) tt);
@@ -549,13 +509,13 @@ module _ (s : Plan) (st : State) where
         (makes_on s (Line lane op.Complete) m st true Completes (record { session = q; goes = g; course = refl }) refl);
     aborts = λ lane q m e i. owned lane op.Abort m q _ e (makes_fails s (Line lane op.Abort) m st AsyncCancelled);
     ends = λ lane q m e i. owned lane op.End m q _ e (makes_end s (Line lane op.End) m st q);
-    answers = λ w a m e i. subst (Makes s (AnswerEvent w a) m st _) (sym (of_answer (order_of_writer st w) a _)) (makes_answer s (AnswerEvent w a) m st w (said_of a) e);
-    steps = λ m e i. subst (Makes s Provider m st _) (sym (of_step (open_group (left_now st)) (next_volume (left_now st)) m _)) (makes_stepped s Provider m st e refl);
+    answers = λ w a m e i. subst (Makes s (AnswerEvent w a) m st _) (sym (grind arith)) (makes_answer s (AnswerEvent w a) m st w (said_of a) e);
+    steps = λ m e i. subst (Makes s Provider m st _) (sym (grind arith)) (makes_stepped s Provider m st e refl);
     idles = λ m e i. makes_passes s Idle m st (idle_now st) refl;
   }
 
   made : (act : Act) → Makes s act.event act.mark st (after_if (enabled s st act.event) s st act) (changes s st act)
-  made act = grind (arith, common_steps, nat_tests, reply_is, covered, covers, makes_none)
+  made act = grind (arith, common_steps, nat_tests, reply_is, covered, covers)
 
 -- ## the state after an act
 
@@ -607,15 +567,9 @@ module _ (s : Plan) (st : State) where
       → after_call (component_reply mode s w name st) (names (naming (known_metas s st) w name st.explicit)) ≡ (component_in mode s w name st).1
   call_component mode w name = grind (arith, call_named)
 
-  call_adds : (v : ℕ) (r : SetRow) (a b c : Bool) (x y z : VssResult) (o : Option VssResult) → is_pending_code x ≡ false → is_pending_code y ≡ false → is_pending_code z ≡ false
-      → (if a then Some x else if b then Some y else if c then Some z else None) ≡ o → after_call (fine_unless o) (AddsVolume r.number v ∷ []) ≡ (add_to v r o st).1
-  call_adds v r a b c x y z o e f g h = grind arith
-
   call_add : (v : ℕ) (o : Option SetRow) → after_call (add_reply v o st) (adds v o) ≡ (add v o st).1
   call_add v None = refl
-  call_add v (Some r) = call_adds v r
-      (is_in_set v (Some r)) (nat_le most_volumes (length r.volumes)) (nat_le most_images (length (history_of st v).images))
-      ObjectAlreadyExists MaximumNumberOfVolumesReached MaximumNumberOfSnapshotsReached (add_refusal v r st) refl refl refl refl
+  call_add v (Some r) = grind arith
 
   call_own : (lane : ℕ) (o : Op) (q : Session) → after_call (session_reply s o q st) (calls s o q st) ≡ (session_line s lane o q st).1
   call_own lane op.Gather q = goes_on_own true (gathered (is_disabled s st) st.clock st.course) st

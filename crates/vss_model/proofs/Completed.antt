@@ -2,27 +2,26 @@
 use Rattle.std.proofs.Common.{◌≡◌, ℕ, ◌+◌, ◌==◌, ◌<◌, zero, suc, List, [], ◌∷◌, ◌++◌, ◌⊎◌, Option, Some, None, refl, Bool, true, false, map, filter, length, ap}
 use Rattle.std.proofs.Common.{sym, ◌∙◌, subst, find, inl, inr, arith}
 use Rattle.std.specs.Prelude.{option_map, is_some, ◌&&◌, ◌||◌, not}
-use Rattle.vss_model.proofs.Terms.{nat_tests, list_any-append, eq-eqb, or_parts, common_steps, Context, SetOutcome, Running as RunningSet, VssResult}
-use Rattle.vss_model.proofs.Terms.{AsyncCancelled, Said, Mark, Clean, Write, Image, History, point_in, dropped, written, Placed, gone_up_to, Group, Kind}
-use Rattle.vss_model.proofs.Terms.{Gather, Prepare, Snapshot, Complete, Member, Place, Agenda, Open, with_group, groups_left, open_group, is_among, is_done}
-use Rattle.vss_model.proofs.Terms.{is_working, all_say, Course, posted, failed as course_failed, settled, begun, stepped as course_stepped, change_at, released}
-use Rattle.vss_model.proofs.Terms.{Session, Plan, said_of, State, SetRow, Kept, in_progress, row_of, row_changed, history_of, left_now, has_image, kept_of}
-use Rattle.vss_model.proofs.Terms.{kept_image, Ending, ending, runs, has_lost_image, set_loses_image, is_in_set, new_set, new_number, with_volume, with_cut}
-use Rattle.vss_model.proofs.Terms.{row_cut, idle_now, Act, after, state, NumberedFrom, has_failed, Cut, Commit, Ok, Entry, plain, at_place, same_place}
-use Rattle.vss_model.proofs.Terms.{has_said, waited_for, open_place, next_member, left, is_snapshot, worked, eqb-true, OverButNewest, is_running, row_settled}
-use Rattle.write_history.specs.History.{cut as history_cut}
+use Rattle.vss_model.proofs.Terms.{nat_tests, list_any-append, eq-eqb, or_parts, common_steps, SetOutcome, Running as RunningSet, VssResult, AsyncCancelled}
+use Rattle.vss_model.proofs.Terms.{Said, Mark, Clean, Write, Image, History, point_in, dropped, written, Placed, gone_up_to, Group, Kind, Gather, Prepare}
+use Rattle.vss_model.proofs.Terms.{Snapshot, Complete, Member, Place, Agenda, Open, with_group, groups_left, open_group, is_among, is_done, is_working, all_say}
+use Rattle.vss_model.proofs.Terms.{Course, posted, failed as course_failed, settled, begun, stepped as course_stepped, change_at, released, Session, Plan}
+use Rattle.vss_model.proofs.Terms.{said_of, State, SetRow, Kept, in_progress, row_of, row_changed, history_of, left_now, has_image, kept_image, runs}
+use Rattle.vss_model.proofs.Terms.{has_lost_image, set_loses_image, new_set, new_number, with_volume, with_cut, row_cut, idle_now, Act, after, state}
+use Rattle.vss_model.proofs.Terms.{NumberedFrom, has_failed, Cut, Commit, Ok, Entry, plain, at_place, same_place, has_said, waited_for, open_place, next_member}
+use Rattle.vss_model.proofs.Terms.{left, is_snapshot, worked, eqb-true, OverButNewest, is_running, row_settled, history_cut}
 use Rattle.vss_model.specs.State.{is_complete}
-use Rattle.vss_model.proofs.StateForm.{concluded, followed, failed_in, failed, cleared, with_room_if, put, write, reverted_as, begin_in, start_set, change_set}
+use Rattle.vss_model.proofs.StateForm.{followed, failed_in, failed, cleared, with_room_if, put, write, reverted_as, start_set, change_set}
 use Rattle.vss_model.proofs.StateForm.{closed, answered, cut_set, image_made, stepped_as, stepped, ticked, later}
 use Rattle.vss_model.proofs.Appending.{by_acts, state-append}
-use Rattle.vss_model.proofs.ByEvent.{Covers, Next, no_set_of, some_same}
+use Rattle.vss_model.proofs.ByEvent.{Covers, Next, some_same}
 use Rattle.vss_model.proofs.Changes.{after_covered}
 use Rattle.vss_model.proofs.Orderly.{true_not_false, other_way, newest-map}
 use Rattle.vss_model.proofs.OrderlyActs.{MovesOn, moves_answered, moves_stepped, moves_timed, orderly, same_changed}
 use Rattle.vss_model.proofs.CourseCalls.{Settles, Call, settles, call_answered, call_stepped, call_timed}
 use Rattle.vss_model.proofs.AtCut.{all_said, tied_snapshot}
 use Rattle.vss_model.proofs.HeldOfSet.{Tied, tied, find-row_cut, volumes-row_cut_if}
-use Rattle.vss_model.proofs.Volumes.{apart, at, Each, each_map, each_change, change_other, as_many_map, as_many_change, as_many_gone}
+use Rattle.vss_model.proofs.Volumes.{at, Each, each_map, each_change, change_other, as_many_map, as_many_change, as_many_gone}
 use Rattle.vss_model.proofs.CutStep.{is_commit, commit_is, commit_volume, image_step, as_many_volumes, outcome_is_running}
 use Rattle.vss_model.proofs.OneCut.{changed_number, changed_result, row_number, kept_point}
 use Rattle.vss_model.proofs.Spoken.{SaidIn, Elsewhere, said_back, says_elsewhere, still_said, begun_unsaid}
@@ -61,11 +60,8 @@ completes_said writers (Some a) o b p n e f (inr (inr c)) =
     let said = said_at_end (is_done (groups_left x)) x o b p (λ d. d) e f c.settles in
     (said.0, λ u i. said_back Commit refl c.said c.now u c.ws a (says_elsewhere Commit refl writers a o b p (n a refl) c) (said.1 u i))
 
-not_at : (os : List Open) → is_commit (open_group os) ≡ false → same_place (open_place os) (plain Commit) ≡ false
-not_at os e = grind arith
-
 elsewhere_at : (st : State) (a : Agenda) → is_commit (open_group (left_now st)) ≡ false → st.course.agenda ≡ Some a → Elsewhere Commit refl false (groups_left a)
-elsewhere_at st a e f = subst (λ (o : Option Agenda). same_place (open_place (left o)) (plain Commit) ≡ false) f (not_at (left_now st) e)
+elsewhere_at st a e f = subst (λ (o : Option Agenda). same_place (open_place (left o)) (plain Commit) ≡ false) f (grind arith)
 
 -- a step makes the step of its volume alone
 abbrev SaidOr : Option Agenda → ℕ → ℕ → Type 0
@@ -137,10 +133,8 @@ keeps_same n h e = e
 
 -- no image of the set went
 none_lost : (n m : ℕ) (ps : List Placed) (hs : List History) → has_lost_image n hs (gone_up_to m ps hs) ≡ false → Each (KeepsImage n) hs (gone_up_to m ps hs)
-none_lost n m [] hs e v f = f
-none_lost n m (p ∷ ps) [] e v f = f
-none_lost n m (p ∷ ps) (x ∷ hs) e zero f = grind (arith, common_steps)
 none_lost n m (p ∷ ps) (x ∷ hs) e (suc v) f = none_lost n m ps hs (or_parts (has_image n x && not (has_image n (at (gone_up_to m (p ∷ ps) (x ∷ hs)) 0))) (has_lost_image n hs (gone_up_to m ps hs)) e).1 v f
+none_lost n m ps hs e v f = grind (arith, common_steps, nat_tests, or_parts)
 
 -- the image that a Commit step gives
 last_has : (images : List Image) (n p : ℕ) → is_some (point_in n (images ++ record { set = n; point = p } ∷ [])) ≡ true
@@ -169,9 +163,6 @@ IsImaged st = (r : SetRow) → in_progress st ≡ Some r → Imaging r st.course
 
 imaging_along : (r : SetRow) (a : Option Agenda) (hs ks : List History) → length ks ≡ length hs → Each (KeepsImage r.number) hs ks → Imaging r a hs → Imaging r a ks
 imaging_along r a hs ks e keeps h u among said l = keeps u (h u among said (subst (λ m. u < m) e l))
-
-clash : {X : Type 0} (o : Option SetRow) (r : SetRow) → o ≡ None → o ≡ Some r → X
-clash o r e f = grind arith
 
 imaged_none : (x : State) → x.course.agenda ≡ None → IsImaged x
 imaged_none x e r f u i m = absurd (subst (SaidIn (plain Commit) u) e m)
@@ -240,7 +231,7 @@ imaging_made r m st e h u among said l =
 
 imaged_commit : (o : Option SetRow) (st : State) → in_progress st ≡ o → is_working (left_now st) ≡ true → IsImaged st
     → IsImaged (followed (runs st) (course_stepped true st.clock st.course) (image_made o (Some (next_member (left_now st))) st))
-imaged_commit None st e w h = imaged_followed _ st (moves_stepped true st.clock st.course w) (λ r f. clash (in_progress st) r e f)
+imaged_commit None st e w h = imaged_followed _ st (moves_stepped true st.clock st.course w) (λ r f. grind arith)
 imaged_commit (Some q) st e w h =
     imaged_followed _ (image_made (Some q) (Some (next_member (left_now st))) st) (moves_stepped true st.clock st.course w)
     (λ r f. imaging_made r q.number st (ap (λ (x : SetRow). x.number) (some_same _ _ (sym f ∙ e))) (h r f))
@@ -270,31 +261,22 @@ imaged_write : (s : Plan) (v : ℕ) (w : Write) (mark : Mark) (st : State) → I
 unfolding write
 imaged_write s v w mark st h = imaged_put v w mark _ (imaged_room (set_loses_image (in_progress st) st.volumes (cleared s v w.block st).volumes) s v w.block st refl h)
 
-imaged_revert : (s : Plan) (v : ℕ) (k : Kept) (mark : Mark) (st : State) → is_in_set v (in_progress st) ≡ false → IsImaged st → IsImaged (reverted_as s v k mark st).1
-imaged_revert s v k mark st e h = grind (arith, common_steps, change_other, apart, as_many_change)
-
 -- a complete set is not the one in progress
 complete_other : (st : State) (m : ℕ) (r : SetRow) → NumberedFrom 1 st.sets → in_progress st ≡ Some r → has_complete st.sets m ≡ true → (m == r.number) ≡ false
-complete_other st m r h e f = other_way r.number m (apart (has_complete st.sets) r.number m (running_incomplete st.sets r h e) f)
+complete_other st m r h e f = other_way r.number m (grind (arith, running_incomplete st.sets r h e))
 
 imaged_deletes_set : (n : ℕ) (st : State) → NumberedFrom 1 st.sets → has_complete st.sets n ≡ true → IsImaged st → IsImaged (record st { volumes = map (dropped n) st.volumes })
 imaged_deletes_set n st o e h r f =
     imaging_along r st.course.agenda st.volumes (map (dropped n) st.volumes) (as_many_map (dropped n) st.volumes)
     (each_map (KeepsImage r.number) (keeps_same r.number) (dropped n) (keeps_dropped n r.number (complete_other st n r o f e)) st.volumes) (h r f)
 
-kept_has_complete : (n : ℕ) (rows : List SetRow) (o : Option SetRow) (p : Option ℕ) (k : Kept) → find (λ q. q.number == n) rows ≡ o → kept_of o p ≡ Some k → has_complete rows k.row.number ≡ true
-kept_has_complete n rows o p k e f = grind (arith, common_steps, kept_point, row_number, complete_found)
-
 imaged_deletes_image : (n v : ℕ) (k : Kept) (st : State) → NumberedFrom 1 st.sets → kept_image st n v ≡ Some k → IsImaged st → IsImaged (record st { volumes = change_at v (dropped k.row.number) st.volumes })
 imaged_deletes_image n v k st o e h r f =
-    let other = complete_other st k.row.number r o f (kept_has_complete n st.sets (row_of st n) (point_in n (history_of st v).images) k refl e) in
+    let other = complete_other st k.row.number r o f (grind (arith, common_steps, kept_point, row_number, complete_found)) in
     imaging_along r st.course.agenda st.volumes (change_at v (dropped k.row.number) st.volumes) (as_many_change (dropped k.row.number) v st.volumes)
     (each_change (KeepsImage r.number) (keeps_same r.number) (dropped k.row.number) (keeps_dropped k.row.number r.number other) v st.volumes) (h r f)
 
 -- ## session calls
-
-imaged_begin : (lane : ℕ) (all : Bool) (c : Option Context) (st : State) → IsImaged st → IsImaged (begin_in lane all c st).1
-imaged_begin lane all c st h = grind arith
 
 agenda_followed : (ran : Bool) (c : Course) (st : State) → (followed ran c st).course.agenda ≡ c.agenda
 unfolding followed
@@ -311,7 +293,7 @@ imaged_at : (s : Plan) (st : State) → NumberedFrom 1 st.sets → IsImaged st �
 imaged_at s st o h = record {
   stays = λ lane op mark told e c. h;
   writes = λ lane op v w mark e f. imaged_write s v w mark st h;
-  reverts = λ lane n v k mark f g. imaged_revert s v k mark st (no_set_of st v k g) h;
+  reverts = λ lane n v k mark f g. grind (arith, common_steps, change_other, as_many_change, nat_tests);
   ticks = λ lane k mark. imaged_ticks k st h;
   idles = λ mark e. imaged_ticks (idle_now st) st h;
   deletes_set = λ lane n c mark f. imaged_deletes_set n st o f h;
@@ -322,7 +304,7 @@ imaged_at s st o h = record {
   adds = λ lane v r q mark g f i. imaged_none (change_set r.number (with_volume v) st) (none_runs st.course.agenda g.quiet);
   aborts = λ lane q mark f. imaged_failed (in_progress st) AsyncCancelled st refl;
   ends = λ lane q mark f. imaged_end q (failed AsyncCancelled st);
-  begins = λ lane m all c mark g f. imaged_begin lane all (Some c) st h;
+  begins = λ lane m all c mark g f. grind arith;
   gathers = λ lane q mark g. imaged_begun Gather _ [] st.clock _ st;
   prepares = λ lane q mark g f. imaged_begun Prepare _ [] st.clock _ st;
   snapshots = λ lane q mark g f. imaged_begun Snapshot st.course.members _ st.clock st.course st;
@@ -345,16 +327,10 @@ snapshots (Some a) = is_snapshot a.kind
 abbrev Done : Bool → ℕ → List ℕ → State → Type 0
 Done b n vs st = (has_complete st.sets n ≡ false) ⊎ ((b ≡ true) × Imaged n vs st.volumes)
 
-volumes_ended : (o p : SetOutcome) (ran : Bool) (a : Option Agenda) (x : State) → is_complete p ≡ true → (concluded (ending o p ran a) x).volumes ≡ x.volumes
-volumes_ended o p ran a x e = grind arith
-
-incomplete_ended : (e : Ending) (n : ℕ) (x : State) → is_complete x.course.outcome ≡ false → has_complete x.sets n ≡ false → has_complete (concluded e x).sets n ≡ false
-incomplete_ended e n x x3 h = grind (arith, incomplete_settled)
-
 module _ (b : Bool) (n : ℕ) (vs : List ℕ) where
   done_followed : (ran : Bool) (c : Course) (x : State) → has_complete x.sets n ≡ false → (is_complete c.outcome ≡ true → (b ≡ true) × Imaged n vs x.volumes) → Done b n vs (followed ran c x)
   unfolding followed
-  done_followed ran c x h images = grind (arith, common_steps, volumes_ended, incomplete_ended)
+  done_followed ran c x h images = grind (arith, common_steps, incomplete_settled)
 
   done_failed : (o : Option SetRow) (why : VssResult) (x : State) → has_complete x.sets n ≡ false → has_complete (failed_in o why x).sets n ≡ false
   unfolding course_failed
@@ -366,9 +342,6 @@ module _ (b : Bool) (n : ℕ) (vs : List ℕ) where
 
   incomplete_revert : (s : Plan) (v : ℕ) (k : Kept) (mark : Mark) (st : State) → has_complete st.sets n ≡ false → has_complete (reverted_as s v k mark st).1.sets n ≡ false
   incomplete_revert s v k mark st h = grind arith
-
-  done_begin : (lane : ℕ) (all : Bool) (c : Option Context) (st : State) → has_complete st.sets n ≡ false → Done b n vs (begin_in lane all c st).1
-  done_begin lane all c st h = grind arith
 
   done_end : (q : Session) (x : State) → has_complete x.sets n ≡ false → Done b n vs (closed q x)
   unfolding closed
@@ -478,7 +451,7 @@ done_at s st r e run h t imaging =
       adds = λ lane v x q mark g f i. inl (incomplete_map (row_changed x.number (with_volume v)) (λ y. changed_number (y.number == x.number) (with_volume v) y refl) (λ y. changed_result (y.number == x.number) (with_volume v) y refl) n st.sets h);
       aborts = λ lane q mark f. inl (done_failed b n us (in_progress st) AsyncCancelled st h);
       ends = λ lane q mark f. done_end b n us q (failed AsyncCancelled st) (done_failed b n us (in_progress st) AsyncCancelled st h);
-      begins = λ lane m all c mark g f. done_begin b n us lane all (Some c) st h;
+      begins = λ lane m all c mark g f. grind arith;
       gathers = λ lane q mark g. done_begun b n us Gather _ [] st.clock _ st run h;
       prepares = λ lane q mark g f. done_begun b n us Prepare _ [] st.clock _ st run h;
       snapshots = λ lane q mark g f. done_begun b n us Snapshot st.course.members _ st.clock st.course st run h;
@@ -516,9 +489,8 @@ IsOther n (Some r) = (r.number == n) ≡ false
 
 other_settled : (p : SetOutcome) (n : ℕ) (rows : List SetRow) → OverButNewest rows → IsOther n (find (λ r. is_running r.result) rows) → has_complete rows n ≡ false
     → has_complete (map (row_settled p) rows) n ≡ false
-other_settled p n [] o i h = refl
-other_settled p n (r ∷ []) o i h = grind (arith, common_steps)
 other_settled p n (r ∷ q ∷ rows) o i h = let ih = other_settled p n (q ∷ rows) o.1 in grind (arith, common_steps)
+other_settled p n rows o i h = grind (arith, common_steps, nat_tests)
 
 module _ (n : ℕ) where
   other_followed : (ran : Bool) (c : Course) (x : State) → OverButNewest x.sets → IsOther n (in_progress x) → has_complete x.sets n ≡ false → has_complete (followed ran c x).sets n ≡ false

@@ -2,22 +2,12 @@
 -- or something is said at the open place by members that are waited for there.
 use Rattle.std.proofs.Common.{◌≡◌, ℕ, List, [], ◌∷◌, ◌⊎◌, Option, Some, None, refl, Bool, true, false, ap, sym, subst, inl, inr, arith}
 use Rattle.std.specs.Prelude.{option_map, ◌&&◌, not}
-use Rattle.std.proofs.lemmas.Grind.{common_steps}
-use Rattle.vss_names.specs.declared.order.Order.{Order}
-use Rattle.vss_names.specs.declared.set_outcome.SetOutcome.{SetOutcome}
-use Rattle.vss_names.specs.declared.vss_result.VssResult.{VssResult}
-use Rattle.writer_state.specs.declared.said.Said.{Said}
-use Rattle.writer_state.specs.declared.said.Said.TheVariants.{Ok, Lost}
-use Rattle.writer_state.specs.WriterState.{is_ok}
-use Rattle.set_agenda.specs.declared.group.Group.{Group}
-use Rattle.set_agenda.specs.declared.limit.Limit.{Limit}
-use Rattle.set_agenda.specs.declared.place.Place.{Place}
-use Rattle.set_agenda.specs.Agenda.{Agenda, Open, is_orders, is_freeze, left_from, places, groups_left, left, open_place, is_asked, is_among, open_order, order_now, waits_now, next_member, is_done, is_working, all_say}
-use Rattle.set_agenda.specs.Limits.{Running as RunningLimit, running_limits, spent_of}
+use Rattle.vss_model.proofs.Terms.{Agenda, Open, is_orders, is_freeze, left_from, places, groups_left, left, open_place, is_asked, is_among, open_order}
+use Rattle.vss_model.proofs.Terms.{order_now, waits_now, next_member, is_done, is_working, all_say, RunningLimit, common_steps, Order, SetOutcome, VssResult}
+use Rattle.vss_model.proofs.Terms.{Said, Ok, Lost, is_ok, Group, Limit, Place, has_failed}
 use Rattle.set_agenda.specs.Course.{Course, posted, outcome_after, failed as course_failed, settled, is_decisive, told, decided, answered_to}
-use Rattle.set_agenda.specs.Course.{answered as course_answered, worked, stepped_as as course_stepped_as, stepped as course_stepped, freeze_limit, lost_to}
+use Rattle.set_agenda.specs.Course.{answered as course_answered, worked, stepped_as as course_stepped_as, stepped as course_stepped, lost_to}
 use Rattle.set_agenda.specs.Course.{fails_set, lost_decided, treated_as, treated, timed as course_timed}
-use Rattle.vss_model.specs.Facts.{has_failed}
 pub use Rattle.set_agenda.proofs.CourseRule.{asked_if, asked_waits, one_alone}
 
 -- ## the three ways
@@ -59,12 +49,6 @@ abbrev pub IsCall : Bool → Course → Course → Type 0
 IsCall writers c d = Call writers c.agenda c.outcome d.agenda d.outcome
 
 -- ## what the open place decides
-
-open_decides : (os : List Open) (w : ℕ) (o : Order) → open_order os w ≡ Some o → is_freeze (open_place os).group ≡ true → is_decisive o ≡ true
-open_decides os w o e f = grind arith
-
-now_decides : (os : List Open) (o : Order) → order_now os ≡ Some o → is_freeze (open_place os).group ≡ true → is_decisive o ≡ true
-now_decides os o e f = grind arith
 
 -- a refusal that does not decide is none of Freeze
 mild : (freeze decides ok : Bool) → (freeze ≡ true → decides ≡ true) → (decides && not ok) ≡ false → (freeze && not ok) ≡ false
@@ -120,16 +104,14 @@ call_decided true w o said now a c e f g = call_failed true a c.outcome _ (told 
 call_decided false w o said now a c e f g =
     let os = groups_left a in
     let asked = asked_waits os w (asked_if (is_asked w os) (order_now os) o f) in
-    says_told true o said now (w ∷ []) a c e (λ x h. one_alone w x (waits_now os) asked.1 h) (mild (is_freeze (open_place os).group) (is_decisive o) (is_ok said) (open_decides os w o f) g) asked.0
+    says_told true o said now (w ∷ []) a c e (λ x h. one_alone w x (waits_now os) asked.1 h)
+    (mild (is_freeze (open_place os).group) (is_decisive o) (is_ok said) (λ y. grind arith) g) asked.0
 
 call_answered_to : (o : Option Order) (w : ℕ) (said : Said) (now : ℕ) (a : Agenda) (c : Course) → c.agenda ≡ Some a → open_order (groups_left a) w ≡ o → Call true (Some a) c.outcome (answered_to o w said now c).agenda (answered_to o w said now c).outcome
 call_answered_to o w said now a c e f = grind (arith, common_steps, call_decided)
 
-call_answered_at : (x : Option Agenda) (w : ℕ) (said : Said) (now : ℕ) (c : Course) → c.agenda ≡ x → IsCall true c (answered_to (open_order (left x) w) w said now c)
-call_answered_at x w said now c e = grind (arith, common_steps, along, call_answered_to)
-
 pub call_answered : (w : ℕ) (said : Said) (now : ℕ) (c : Course) → IsCall true c (course_answered w said now c)
-call_answered w said now c = call_posted true c c _ (call_answered_at c.agenda w said now c refl)
+call_answered w said now c = call_posted true c c _ (grind (arith, common_steps, along, call_answered_to))
 
 -- ## a step
 
@@ -159,8 +141,8 @@ call_stepped ok now c f = call_posted false c c _ (call_stepped_as ok c.agenda n
 call_lost_to : (o : Option Order) (now : ℕ) (a : Agenda) (c : Course) → c.agenda ≡ Some a → order_now (groups_left a) ≡ o → fails_set o ≡ false → Call true (Some a) c.outcome (settled (lost_to o now c)).agenda (settled (lost_to o now c)).outcome
 call_lost_to None now a c e f g = inr (inl (record { done = is_done (groups_left a); is_done = λ h. h; settles = settles a c.outcome c e refl }))
 call_lost_to (Some o) now a c e f g =
-    let os = groups_left a in let fact = mild (is_freeze (open_place os).group) (is_decisive o) (is_ok Lost) (now_decides os o f) (rw g refl) in
-    grind (arith, common_steps, says_told true o Lost now (waits_now os) a c e, now_decides os o f, now_orders os o f)
+    let os = groups_left a in let fact = mild (is_freeze (open_place os).group) (is_decisive o) (is_ok Lost) (λ y. grind arith) (rw g refl) in
+    grind (arith, common_steps, says_told true o Lost now (waits_now os) a c e, now_orders os o f)
 
 call_lost_decided : (fails : Bool) (now : ℕ) (a : Agenda) (c : Course) → c.agenda ≡ Some a → fails_set (order_now (groups_left a)) ≡ fails
     → Call true (Some a) c.outcome (lost_decided fails (lost_to (order_now (groups_left a)) now c)).agenda (lost_decided fails (lost_to (order_now (groups_left a)) now c)).outcome
@@ -172,8 +154,5 @@ call_treated_as l now a c e = grind (arith, call_failed, call_lost_decided)
 call_treated : (l : Option RunningLimit) (now : ℕ) (a : Agenda) (c : Course) → c.agenda ≡ Some a → Call true (Some a) c.outcome (treated l now c).agenda (treated l now c).outcome
 call_treated l now a c e = grind (arith, common_steps, call_treated_as)
 
-call_timed_at : (x : Option Agenda) (now : ℕ) (c : Course) → c.agenda ≡ x → IsCall true c (treated (spent_of now (running_limits (freeze_limit c) x)) now c)
-call_timed_at x now c e = grind (arith, common_steps, along, call_treated)
-
 pub call_timed : (now : ℕ) (c : Course) → IsCall true c (course_timed now c)
-call_timed now c = call_posted true c c _ (call_timed_at c.agenda now c refl)
+call_timed now c = call_posted true c c _ (grind (arith, common_steps, along, call_treated))

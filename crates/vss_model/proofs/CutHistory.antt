@@ -3,9 +3,7 @@ use Rattle.std.proofs.Common.{◌≡◌, ℕ, ◌-◌, ◌==◌, ◌<◌, ◌≤
 use Rattle.std.proofs.Common.{inl, inr, arith}
 use Rattle.std.specs.Prelude.{◌⊎◌, is_some, not, if◌then◌else◌, nat_lt}
 use Rattle.vss_model.proofs.Terms.{append_assoc, take-append-add, cases_lt, eqb-true, common_steps, Write, Image, History, point_in, up_to_set, dropped}
-use Rattle.vss_model.proofs.Terms.{written, reverted, reverted_in_part, State, in_progress, history_of, has_image, is_in_set}
-use Rattle.write_history.specs.History.{cut}
-use Rattle.set_agenda.proofs.Closings.{unless}
+use Rattle.vss_model.proofs.Terms.{written, reverted, reverted_in_part, State, in_progress, history_of, has_image, is_in_set, history_cut as cut, unless}
 use Rattle.vss_model.proofs.Volumes.{at}
 
 -- the state at the cut of each set that was cut
@@ -41,12 +39,9 @@ AllShown k hs = (v : ℕ) → IsShown k v (at hs v)
 
 -- ## fewer images
 
-above_if : (b : Bool) (i j : Image) (js : List Image) → i.set < j.set → i.point ≤ j.point → Above i js → Above i (if b then j ∷ js else js)
-above_if b i j js e f h = grind arith
-
 above-filter : (test : Image → Bool) (i : Image) (js : List Image) → Above i js → Above i (filter test js)
 above-filter test i [] h = tt
-above-filter test i (j ∷ js) h = above_if (test j) i j (filter test js) h.0 h.1 (above-filter test i js h.2)
+above-filter test i (j ∷ js) h = grind (arith, h.0, h.1, above-filter test i js h.2)
 
 shown_if : (b : Bool) (k : Known) (v : ℕ) (ws : List Write) (i : Image) (images : List Image) → (b ≡ true → ShownIn (k i.set) v i.point ws) → Above i images → Shown k v ws images → Shown k v ws (if b then i ∷ images else images)
 shown_if b k v ws i images e f h = grind arith
@@ -57,12 +52,9 @@ shown-filter test k v ws (i ∷ images) h = shown_if (test i) k v ws i (filter t
 
 -- ## more writes
 
-in-append : (o : Option State) (v point : ℕ) (ws more : List Write) → ShownIn o v point ws → ShownIn o v point (ws ++ more)
-in-append o v point ws more h = grind (arith, common_steps, append_assoc)
-
 pub shown-writes : (k : Known) (v : ℕ) (ws more : List Write) (images : List Image) → Shown k v ws images → Shown k v (ws ++ more) images
 shown-writes k v ws more [] h = tt
-shown-writes k v ws more (i ∷ images) h = (in-append (k i.set) v i.point ws more h.0, h.1, shown-writes k v ws more images h.2)
+shown-writes k v ws more (i ∷ images) h = (grind (arith, common_steps, append_assoc, h.0), h.1, shown-writes k v ws more images h.2)
 
 -- ## back to a point
 
@@ -74,23 +66,17 @@ abbrev Within : ℕ → ℕ → List Image → Type 0
 Within n p [] = Unit {0}
 Within n p (i ∷ images) = (nat_lt n i.set ≡ false → i.point ≤ p) × Within n p images
 
-above_point_if : (b : Bool) (i j : Image) (n p : ℕ) (js : List Image) → i.point ≤ j.point → (if b then Some j.point else point_in n js) ≡ Some p → (point_in n js ≡ Some p → i.point ≤ p) → i.point ≤ p
-above_point_if b i j n p js l e ih = grind arith
-
 above_point : (i : Image) (n p : ℕ) (js : List Image) → Above i js → point_in n js ≡ Some p → i.point ≤ p
 above_point i n p [] h e = absurd cc
-above_point i n p (j ∷ js) h e = above_point_if (j.set == n) i j n p js h.1 e (above_point i n p js h.2)
+above_point i n p (j ∷ js) h e = grind (arith, h.1, above_point i n p js h.2)
 
 later_within : (i : Image) (n p : ℕ) (js : List Image) → i.set ≡ n → Above i js → Within n p js
 later_within i n p [] e h = tt
 later_within i n p (j ∷ js) e h = grind (arith, common_steps, later_within i n p js e h.2)
 
-within_if : (b : Bool) (i : Image) (n p : ℕ) (images : List Image) → (i.set == n) ≡ b → (if b then Some i.point else point_in n images) ≡ Some p → Above i images → (point_in n images ≡ Some p → Within n p images) → Within n p (i ∷ images)
-within_if b i n p images e f h ih = grind (arith, later_within, eqb-true, above_point)
-
 within : (k : Known) (v : ℕ) (ws : List Write) (n p : ℕ) (images : List Image) → Shown k v ws images → point_in n images ≡ Some p → Within n p images
 within k v ws n p [] h e = absurd cc
-within k v ws n p (i ∷ images) h e = within_if (i.set == n) i n p images refl e h.1 (within k v ws n p images h.2)
+within k v ws n p (i ∷ images) h e = grind (arith, later_within, eqb-true, above_point, h.1, within k v ws n p images h.2)
 
 back : (k : Known) (v : ℕ) (ws : List Write) (n p : ℕ) (images : List Image) → Shown k v ws images → Within n p images → Shown k v (take p ws) (up_to_set n images)
 back k v ws n p [] h l = tt
@@ -131,10 +117,6 @@ shown-append : (k : Known) (v : ℕ) (ws : List Write) (images : List Image) (j 
 shown-append k v ws [] j h b e = (e, tt, tt)
 shown-append k v ws (i ∷ images) j h b e = (h.0, above-append i j images h.1 b.0 b.1, shown-append k v ws images j h.2 b.2 e)
 
--- no point is past the end
-pub no_greater : (o : Option State) (v point : ℕ) (ws : List Write) → ShownIn o v point ws → point ≤ length ws
-no_greater o v point ws g = grind (arith, common_steps)
-
 is_below : (k : Known) (v p n m : ℕ) (ws : List Write) → ((l : ℕ) → n < l → k l ≡ None) → (m == n) ≡ false → ShownIn (k m) v p ws → m < n
 is_below k v p n m ws none other h = by_cases (cases_lt n m) where
   less : (a b : ℕ) → a ≤ b → (a == b) ≡ false → a < b
@@ -149,7 +131,8 @@ below : (k : Known) (v : ℕ) (ws : List Write) (n : ℕ) (images : List Image) 
     → Below images n (length ws)
 below k v ws n [] none unset h = tt
 below k v ws n (i ∷ images) none unset h =
-    let parts = by_head (i.set == n) unset in (is_below k v i.point n i.set ws none parts.0 h.0, no_greater (k i.set) v i.point ws h.0, below k v ws n images none parts.1 h.2) where
+    let parts = by_head (i.set == n) unset
+    in (is_below k v i.point n i.set ws none parts.0 h.0, grind (arith, common_steps, h.0), below k v ws n images none parts.1 h.2) where
       by_head : (b : Bool) → is_some (if b then Some i.point else point_in n images) ≡ false → (b ≡ false) × (is_some (point_in n images) ≡ false)
       by_head b e = grind arith
 

@@ -12,7 +12,7 @@ use Rattle.vss_model.proofs.StateForm.{followed, cut_set, image_made, stepped, i
 use Rattle.vss_model.proofs.Terms.{common_steps, nat_tests, list_any-append, eq-eqb, Mark, Group, Commit, Place, Open, Agenda, is_working, is_snapshot}
 use Rattle.vss_model.proofs.Terms.{is_among, has_said, plain, places, left, groups_left, open_group, open_place, next_volume, next_member, members_of, settled}
 use Rattle.vss_model.proofs.Terms.{posted, worked, Course, stepped as course_stepped, Plan, State, SetRow, in_progress, left_now, ending, runs, Act, after}
-use Rattle.vss_model.proofs.Terms.{is_provider, is_cut_group, Change, apply, History, dropped, written, reverted, reverted_in_part, Event, Ending, SetFails}
+use Rattle.vss_model.proofs.Terms.{is_provider, is_cut_group, Change, apply, History, dropped, written, reverted, reverted_in_part, Ending, SetFails}
 use Rattle.vss_model.proofs.Terms.{state, Writes, Makes, Reverts, RevertsPart, DropsSet, Drops, Evicts, SetOutcome, Running, Failed, VssResult}
 use Rattle.vss_model.proofs.Terms.{UnexpectedProviderError, Fault, Flush, failed as course_failed, Provider, is_running, row_of, row_settled, IsOfSession}
 use Rattle.vss_model.proofs.Terms.{has_failed, IsFailed, Session}
@@ -48,9 +48,6 @@ pub image_step : (mark : Mark) (st : State) → open_group (left_now st) ≡ Som
 unfolding stepped
 image_step mark st e = grind (arith, common_steps)
 
-pub working_at_cut : (os : List Open) → is_cut_group (open_group os) ≡ true → is_working os ≡ true
-working_at_cut os e = grind arith
-
 pub working_at_commit : (os : List Open) → is_commit (open_group os) ≡ true → is_working os ≡ true
 working_at_commit os e = grind arith
 
@@ -60,7 +57,7 @@ after_provider s st act e w = grind (arith, common_steps, after_is)
 -- the provider's step at the open Cut group
 pub after_cut : (s : Plan) (st : State) (act : Act) → is_provider act.event ≡ true → is_cut_group (open_group (left_now st)) ≡ true
     → after s st act ≡ followed (runs st) (course_stepped true st.clock st.course) (cut_set (in_progress st) st)
-after_cut s st act e f = after_provider s st act e (working_at_cut (left_now st) f) ∙ cut_step act.mark st f
+after_cut s st act e f = after_provider s st act e (grind arith) ∙ cut_step act.mark st f
 
 -- and at the open Commit group
 pub after_commit : (s : Plan) (st : State) (act : Act) → is_provider act.event ≡ true → is_commit (open_group (left_now st)) ≡ true
@@ -82,7 +79,7 @@ pub by_cut : (P : State → Type 0) (s : Plan) (st : State) (act : Act) (r : Set
     → ((c : Change) (x : State) → is_end c ≡ true → Comes s act.event act.mark st x c → P x → P (apply x c))
     → P (record (cut_set (Some r) st) { course = course_stepped true st.clock st.course }) → P (after s st act)
 by_cut P s st act r e f g keeps h =
-    let makes = makes_cut s act.event act.mark st r (working_at_cut (left_now st) f) g e f in
+    let makes = makes_cut s act.event act.mark st r (grind arith) g e f in
     let c = course_stepped true st.clock st.course in
     subst P (sym (after_cut s st act e f ∙ ap (λ o. followed (runs st) c (cut_set o st)) g ∙ makes.is))
     (by_ends P s act.event act.mark st keeps (ending st.course.outcome c.outcome (runs st) c.agenda) c.outcome _ st makes.come.1.1 h)
@@ -108,9 +105,6 @@ pub record IsAtCommit (a : Agenda) : Type 0 where
   pub among : is_among (next_member (groups_left a)) a.volumes ≡ true
   pub unsaid : has_said a.log (plain Commit) (next_member (groups_left a)) ≡ false
 
-commit_snapshot : (a : Agenda) → is_commit (open_group (groups_left a)) ≡ true → is_snapshot a.kind ≡ true
-commit_snapshot a e = grind arith
-
 commit_cut : (a : Agenda) → is_commit (open_group (groups_left a)) ≡ true → is_cut_made a.log ≡ true
 commit_cut a e = grind arith
 
@@ -122,7 +116,7 @@ at_commit a e =
     let place = commit_place a e in
     let waited = head_waits a (places a.kind) (working_at_commit (groups_left a) e) in
     record {
-      snapshot = commit_snapshot a e;
+      snapshot = grind arith;
       cut = commit_cut a e;
       place = place;
       among = subst (λ (p : Place). is_among (next_member (groups_left a)) (members_of a p.group p.level) ≡ true) place (waits_members a (places a.kind) (next_member (groups_left a)) waited);
@@ -169,14 +163,10 @@ fewer_apply (Drops n v) x e = fewer_in_change (dropped n) (fewer_dropped n) v x.
 fewer_apply (Evicts n group) x e = fewer_in_gone n group x.volumes
 fewer_apply _ x e = fewer_in_same x.volumes
 
--- an act that is no Commit step gives none
-pub no_image_given : (s : Plan) (e : Event) (m : Mark) (st x : State) (c : Change) → (is_provider e && is_commit (open_group (left_now st))) ≡ false → Comes s e m st x c → gives_image c ≡ false
-no_image_given s e m st x c f i = grind (arith, common_steps)
-
 pub fewer_after : (s : Plan) (st : State) (act : Act) → (is_provider act.event && is_commit (open_group (left_now st))) ≡ false → FewerIn st.volumes (after s st act).volumes
 fewer_after s st act f =
     by_changes (λ x. FewerIn st.volumes x.volumes) s st act
-    (λ c x i h. fewer_in_over st.volumes x.volumes _ h (fewer_apply c x (no_image_given s act.event act.mark st x c f i))) (fewer_in_same st.volumes)
+    (λ c x i h. fewer_in_over st.volumes x.volumes _ h (fewer_apply c x (grind (arith, common_steps)))) (fewer_in_same st.volumes)
 
 -- ## where the course goes on
 
@@ -194,12 +184,10 @@ fewer_followed ran c st = fewer_concluded (ending st.course.outcome c.outcome ra
 
 -- ## as many volumes as at the start
 
-as_many_apply : (c : Change) (x : State) → length (apply x c).volumes ≡ length x.volumes
-as_many_apply c x = grind (arith, common_steps, as_many_change, fewer_apply)
-
 as_many_from : (s : Plan) (st : State) (acts : List Act) → length (fold (after s) st acts).volumes ≡ length st.volumes
 as_many_from s st [] = refl
-as_many_from s st (act ∷ acts) = as_many_from s (after s st act) acts ∙ by_changes (λ x. length x.volumes ≡ length st.volumes) s st act (λ c x i h. as_many_apply c x ∙ h) refl
+as_many_from s st (act ∷ acts) = as_many_from s (after s st act) acts
+    ∙ by_changes (λ x. length x.volumes ≡ length st.volumes) s st act (λ c x i h. (grind (arith, common_steps, as_many_change, fewer_apply)) ∙ h) refl
 
 -- there are always as many volumes as in the scenario
 pub as_many_volumes : (s : Plan) (acts : List Act) → length (state s acts).volumes ≡ length s.volumes

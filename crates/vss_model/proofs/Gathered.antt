@@ -1,19 +1,16 @@
 -- Before its writers are gathered a session names nothing and nobody takes part; from then on what it names are selectable
 -- components of writers that it knows, and only they take part.
-use Rattle.std.proofs.Common.{◌≡◌, ℕ, ◌+◌, ◌==◌, ◌<◌, zero, suc, List, [], ◌∷◌, ◌++◌, ◌⊎◌, Option, Some, None, refl, Bool, true, false, map, filter, ap, sym}
+use Rattle.std.proofs.Common.{◌≡◌, ℕ, ◌+◌, ◌==◌, ◌<◌, suc, List, [], ◌∷◌, ◌++◌, ◌⊎◌, Option, Some, None, refl, Bool, true, false, map, filter, ap, sym}
 use Rattle.std.proofs.Common.{◌∙◌, subst, fold, inl, inr, arith}
-use Rattle.std.specs.Prelude.{is_some, ◌&&◌, ◌||◌, not, if◌then◌else◌, slice_get, length}
+use Rattle.std.specs.Prelude.{is_some, ◌&&◌, ◌||◌, not, if◌then◌else◌, slice_get}
 use Rattle.vss_model.proofs.Terms.{nat_tests, list_any, VssResult, AsyncCancelled, Said, WriterRow, row_gathered, Mark, Write, dropped, Meta, Pair, is_taker}
-use Rattle.vss_model.proofs.Terms.{takers, meta_at, is_selectable_of, names_selectable, list_all, and_parts, eqb-true, or_from, or_right, common_steps, Group}
-use Rattle.vss_model.proofs.Terms.{Kind, Gather, Prepare, Snapshot, Complete, Member, Agenda, is_among, Course, change_at, posted, settled, begun}
-use Rattle.vss_model.proofs.Terms.{failed as course_failed, member_if, members_from, is_member, has_row_failed, answered as course_answered}
-use Rattle.vss_model.proofs.Terms.{stepped as course_stepped, timed as course_timed, released, Mode, Components, All, Stage, Opened, Gathered, Started, Session}
-use Rattle.vss_model.proofs.Terms.{has_writers, is_stage, Plan, WriterPlan, said_of, State, SetRow, Kept, start, in_progress, Ending, ending, runs}
-use Rattle.vss_model.proofs.Terms.{has_failed_identify, with_volume, selected_in, is_known, known_from, known_metas, idle_now, Act, after, state}
-use Rattle.vss_model.proofs.Terms.{LetsGo, IsAgendaOf, Event, Change, apply}
-use Rattle.component_doc.specs.Selection.{known_from as known_of}
-use Rattle.requestor.specs.declared.session_call.SessionCall.TheVariants as call
-use Rattle.vss_model.proofs.StateForm.{concluded, followed, failed_in, failed, put, write, reverted_as, start_set, change_set, closed, answered, step_made}
+use Rattle.vss_model.proofs.Terms.{meta_at, names_selectable, list_all, and_parts, eqb-true, or_from, or_right, common_steps, Group, Kind, Gather, Prepare}
+use Rattle.vss_model.proofs.Terms.{Snapshot, Complete, Member, Agenda, Course, change_at, posted, settled, begun, failed as course_failed, member_if}
+use Rattle.vss_model.proofs.Terms.{members_from, is_member, has_row_failed, answered as course_answered, stepped as course_stepped, timed as course_timed}
+use Rattle.vss_model.proofs.Terms.{released, Mode, Components, All, Stage, Opened, Gathered, Started, Session, has_writers, is_stage, Plan, WriterPlan, said_of}
+use Rattle.vss_model.proofs.Terms.{State, start, Ending, ending, runs, has_failed_identify, with_volume, selected_in, is_known, known_from}
+use Rattle.vss_model.proofs.Terms.{known_metas, idle_now, Act, after, state, LetsGo, Event, Change, apply, known_of}
+use Rattle.vss_model.proofs.StateForm.{concluded, followed, failed, put, write, start_set, change_set, closed, answered, step_made}
 use Rattle.vss_model.proofs.StateForm.{stepped_as, stepped, ticked, later}
 use Rattle.vss_model.proofs.Changes.{CourseCall, Answers, Steps, Times, Gathers, Prepares, Snapshots, Completes, Disables, Fails, Releases, called, IsDue}
 use Rattle.vss_model.proofs.Changes.{Stands, SessionStep, session_after, IsStepDue, Comes, by_all_changes, after_covered}
@@ -25,6 +22,7 @@ use Rattle.vss_model.proofs.Orderly.{true_not_false}
 use Rattle.vss_model.proofs.HeldOfSet.{Follows, goes_answered, goes_stepped, goes_timed}
 use Rattle.vss_model.proofs.KnownWriters.{is_unfit, AsFit, AsksFitIn, is_gathering, Keeps, keeps_failed, keeps_answered, keeps_stepped, keeps_timed}
 use Rattle.vss_model.proofs.KnownWriters.{members_answered, members_timed, AreOver, known_same, named_over}
+use Rattle.requestor.specs.declared.session_call.SessionCall.TheVariants as call
 
 -- ## the facts
 
@@ -81,25 +79,21 @@ fit_begun_agenda k ms vs now c e h = grind arith
 -- ## who takes part is known
 
 pub known_at : (s : Plan) (st : State) (k : ℕ) (ps : List WriterPlan) (w : ℕ) → is_some (meta_at (slice_get (known_from s st k ps) w)) ≡ true → is_known s st (k + w) ≡ true
-known_at s st k [] zero e = absurd cc
-known_at s st k [] (suc w) e = absurd cc
-known_at s st k (p ∷ ps) zero e = grind (arith, common_steps)
 known_at s st k (p ∷ ps) (suc w) e = ap (is_known s st) (shift k w) ∙ known_at s st (k + 1) ps w e where
   shift : (a b : ℕ) → a + suc b ≡ (a + 1) + b
   shift a b = omega arith
+known_at s st k ps w e = grind (arith, common_steps, nat_tests)
 
 fit_of : (s : Plan) (st : State) (w : ℕ) → is_some (meta_at (slice_get (known_metas s st) w)) ≡ true → is_unfit st.course.rows w ≡ false
 fit_of s st w e = grind (arith, common_steps, known_at)
-
-pub selectable_known : (i : ℕ) (o : Option Meta) → is_selectable_of i o ≡ true → is_some o ≡ true
-selectable_known i o e = grind arith
 
 pub named_known : (ms : List (Option Meta)) (ps : List Pair) (w : ℕ) → list_all (names_selectable ms) ps ≡ true → list_any (λ (p : Pair). p.writer == w) ps ≡ true → is_some (meta_at (slice_get ms w)) ≡ true
 named_known ms [] w e f = absurd cc
 named_known ms (p ∷ ps) w e f = by_head (p.writer == w) refl f (named_known ms ps w (and_parts (names_selectable ms p) (list_all (names_selectable ms) ps) e).1)
   where
     by_head : (b : Bool) → (p.writer == w) ≡ b → (b || list_any (λ (x : Pair). x.writer == w) ps) ≡ true → (list_any (λ (x : Pair). x.writer == w) ps ≡ true → is_some (meta_at (slice_get ms w)) ≡ true) → is_some (meta_at (slice_get ms w)) ≡ true
-    by_head true g h ih = subst (λ x. is_some (meta_at (slice_get ms x)) ≡ true) (eqb-true p.writer w g) (selectable_known p.component (meta_at (slice_get ms p.writer)) (and_parts (names_selectable ms p) (list_all (names_selectable ms) ps) e).0)
+    by_head true g h ih = subst (λ x. is_some (meta_at (slice_get ms x)) ≡ true) (eqb-true p.writer w g)
+        (grind (arith, (and_parts (names_selectable ms p) (list_all (names_selectable ms) ps) e).0))
     by_head false g h ih = ih h
 
 -- the writers that are known, from number k on
@@ -117,12 +111,9 @@ none_known_below (Some m ∷ ms) k n l = or_from (k == n) (list_any (λ x. x == 
     differs a b l = grind arith
 
 pub all_known : (ms : List (Option Meta)) (k n w : ℕ) → n ≡ k + w → list_any (λ x. x == n) (known_of k ms) ≡ true → is_some (meta_at (slice_get ms w)) ≡ true
-all_known [] k n w e f = absurd cc
-all_known (None ∷ ms) k n zero e f = grind (arith, common_steps, true_not_false, none_known_below)
 all_known (None ∷ ms) k n (suc w) e f = all_known ms (k + 1) n w (shift n k w e) f where
   shift : (a b c : ℕ) → a ≡ b + suc c → a ≡ (b + 1) + c
   shift a b c e = omega (arith, e)
-all_known (Some m ∷ ms) k n zero e f = refl
 all_known (Some m ∷ ms) k n (suc w) e f = all_known ms (k + 1) n w (shift n k w e) (rest (k == n) (list_any (λ x. x == n) (known_of (k + 1) ms)) (differs n k w e) f)
   where
     shift : (a b c : ℕ) → a ≡ b + suc c → a ≡ (b + 1) + c
@@ -134,6 +125,7 @@ all_known (Some m ∷ ms) k n (suc w) e f = all_known ms (k + 1) n w (shift n k 
     rest : (a b : Bool) → a ≡ false → (a || b) ≡ true → b ≡ true
     rest true b e f = absurd cc
     rest false b e f = f
+all_known ms k n w e f = grind (arith, common_steps, nat_tests, true_not_false, none_known_below)
 
 taker_known : (mode : Mode) (s : Plan) (st : State) (w : ℕ) → AreOver (known_metas s st) st.explicit → is_taker (selected_in mode s st) w ≡ true → is_unfit st.course.rows w ≡ false
 taker_known Components s st w over e =
@@ -153,18 +145,7 @@ member_passes test k (r ∷ rows) w e = by_test (test k) refl e (member_passes t
   by_test true g h ih = by_head (k == w) refl g h ih
   by_test false g h ih = ih h
 
--- the participants that `prepare` fixes
-abbrev participants : Plan → Mode → State → List Member
-participants s mode st = members_from (λ w. is_among w (takers (length s.writers) (selected_in mode s st))) 0 st.course.rows
-
-gathered_prepared : (s : Plan) (mode : Mode) (now : ℕ) (st : State) → AreOver (known_metas s st) st.explicit → LateIn st.session
-    → IsGathered s (record st { course = begun Prepare (participants s mode st) [] now (record st.course { members = participants s mode st }) })
-gathered_prepared s mode now st over late = grind (arith, common_steps, begun_members, known_same, taker_known, filter_passes, member_passes, fit_begun_agenda)
-
 -- ## what changes neither names nor course
-
-bare_same : (st x : State) → x.explicit ≡ st.explicit → x.course ≡ st.course → IsBare st → IsBare x
-bare_same st x e f h = grind arith
 
 gathered_same : (s : Plan) (st x : State) → x.explicit ≡ st.explicit → x.course ≡ st.course → LateIn x.session → IsGathered s st → IsGathered s x
 gathered_same s st x e f late h = grind arith
@@ -174,7 +155,7 @@ abbrev NamesKnown : Plan → State → Type 0
 NamesKnown s st = IsBare st ⊎ IsGathered s st
 
 same : (s : Plan) (st x : State) → x.explicit ≡ st.explicit → x.course ≡ st.course → (LateIn st.session → LateIn x.session) → NamesKnown s st → NamesKnown s x
-same s st x e f late x6 = grind (arith, bare_same, gathered_same)
+same s st x e f late x6 = grind (arith, gathered_same)
 
 pub failed_agenda : (why : VssResult) (c : Course) → (course_failed why c).agenda ≡ None
 unfolding course_failed
@@ -201,12 +182,6 @@ opened_not_late x b e h = grind arith
 names_late : (x : Stage) (b : Bool) → ((is_stage x Gathered || is_stage x Started) && b) ≡ true → is_late x ≡ true
 names_late x b e = grind arith
 
-prepares_late : (x : Stage) (b : Bool) → (is_stage x Started && b) ≡ true → is_late x ≡ true
-prepares_late x b e = grind arith
-
-nobody : (ms : List Member) (w : ℕ) → ms ≡ [] → is_member ms w ≡ true → ⊥
-nobody ms w e f = grind arith
-
 over_nothing : (ms : List (Option Meta)) (ps : List Pair) → ps ≡ [] → AreOver ms ps
 over_nothing ms ps e = subst (AreOver ms) (sym e) refl
 
@@ -226,7 +201,19 @@ module _ (s : Plan) (st : State) where
 
   on_prepare : (q : Session) (x : State) → LetsGo call.Prepare q st → NamesKnown s st → With st (called s st (Prepares q) st.course)
   on_prepare q x g h = inr
-      (gathered_prepared s q.mode st.clock st (over h) (subst LateIn (sym g.stands) (prepares_late q.stage (has_writers q.context) g.allowed))) where
+      (grind (
+        arith,
+        common_steps,
+        begun_members,
+        known_same,
+        taker_known,
+        filter_passes,
+        member_passes,
+        fit_begun_agenda,
+        (over h),
+        (subst LateIn
+            (sym g.stands) (grind (arith, common_steps, g.allowed))),
+      )) where
         over : NamesKnown s st → AreOver (known_metas s st) st.explicit
         over (inl k) = over_nothing (known_metas s st) st.explicit k.explicit
         over (inr k) = k.over
@@ -279,7 +266,7 @@ module _ (s : Plan) (st : State) where
 
   on_step : (e : Event) (x : State) (step : SessionStep) → IsStepDue e st x step → NamesKnown s x
       → NamesKnown s (record x { session = session_after st step x.session })
-  on_step e x step i h = grind (arith, common_steps, nat_tests, bare_same, gathered_same)
+  on_step e x step i h = grind (arith, common_steps, nat_tests, gathered_same)
 
   none_named : (x : State) (pairs : List Pair) → pairs ≡ [] → NamesKnown s x → NamesKnown s (record x { explicit = pairs })
   none_named x pairs e (inl h) = inl (record { explicit = e; members = h.members; agenda = h.agenda })
@@ -288,7 +275,7 @@ module _ (s : Plan) (st : State) where
 
   names_apply : (e : Event) (m : Mark) (c : Change) (x : State) → Comes s e m st x c → NamesKnown s x → NamesKnown s (apply x c)
   names_apply e m c x i h =
-      grind (arith, common_steps, nat_tests, on_called, on_step, none_named, same, known_same, named_over, over_nothing, nobody, none_runs, names_late)
+      grind (arith, common_steps, nat_tests, on_called, on_step, none_named, same, known_same, named_over, over_nothing, none_runs, names_late)
 
 names_from : (s : Plan) (st : State) (acts : List Act) → NamesKnown s st → NamesKnown s (fold (after s) st acts)
 names_from s st acts h = by_all_changes (NamesKnown s) s (λ e m old. names_apply s old e m) st acts h
@@ -302,9 +289,6 @@ pub participants_are_fit : (s : Plan) (acts : List Act) (w : ℕ) → is_member 
 participants_are_fit s acts w e = grind (arith, common_steps, names_from)
 
 -- ## whom a session knows, once its writers are gathered
-
-asks_in : (s : Plan) (st : State) (q : Session) → st.session ≡ Some q → is_late q.stage ≡ true → IsAgendaOf st.course.agenda st.session → NamesKnown s st → AsksFitIn st.course.agenda st.course.rows
-asks_in s st q e l w x6 = grind arith
 
 module _ (s : Plan) (st : State) where
   -- a session that stands knows whom it knew
@@ -340,18 +324,12 @@ module _ (s : Plan) (st : State) where
   unfolding stepped
   knows_steps mark = knows_stepped_as _ _ _
 
-  knows_failed : (o : Option SetRow) (why : VssResult) (x : State) → x.course ≡ st.course → KnowsStill (failed_in o why x)
-  knows_failed o why x e = grind (arith, knows_same, keeps_failed, knows_kept, course-concluded)
-
   knows_put : (v : ℕ) (w : Write) (mark : Mark) (x : State) → KnowsStill x → KnowsStill (put v w mark x)
   knows_put v w mark x h = grind arith
 
   knows_write : (v : ℕ) (w : Write) (mark : Mark) → KnowsStill (write s v w mark st).1
   unfolding write
-  knows_write v w mark = grind (arith, common_steps, knows_put, knows_failed, knows_same)
-
-  knows_revert : (v : ℕ) (k : Kept) (mark : Mark) → KnowsStill (reverted_as s v k mark st).1
-  knows_revert v k mark = grind arith
+  knows_write v w mark = grind (arith, common_steps, knows_put, knows_same, keeps_failed, knows_kept, course-concluded)
 
   knows_end : (q : Session) (x : State) → KnowsStill (closed q x)
   unfolding closed
@@ -360,14 +338,11 @@ module _ (s : Plan) (st : State) where
   knows_begun : (k : Kind) (ms : List Member) (vs : List ℕ) (now : ℕ) (c : Course) → c.disabled ≡ st.course.disabled → AsFit st.course.rows c.rows → KnowsStill (followed true (begun k ms vs now c) st)
   knows_begun k ms vs now c e f = grind (arith, begun_members, knows_kept, course_of)
 
-  no_begin : (o : Option Session) (q : Session) → o ≡ Some q → o ≡ None → ⊥
-  no_begin o q e f = grind arith
-
   knows_at : (q : Session) → st.session ≡ Some q → is_late q.stage ≡ true → AsksFitIn st.course.agenda st.course.rows → Covers (Next KnowsStill) s st
   knows_at q e l a = record {
     stays = λ lane op mark told e c. knows_same st refl;
     writes = λ lane op v w mark e f. knows_write v w mark;
-    reverts = λ lane n v k mark f g. knows_revert v k mark;
+    reverts = λ lane n v k mark f g. grind arith;
     ticks = λ lane n mark. knows_ticks n a;
     idles = λ mark e. knows_ticks (idle_now st) a;
     deletes_set = λ lane n c mark f. knows_same (record st { volumes = map (dropped n) st.volumes }) refl;
@@ -376,9 +351,9 @@ module _ (s : Plan) (st : State) where
     disables = λ lane w x mark g. absurd (opened_not_late x.stage (has_writers x.context) g.allowed (late_at st.session x g.stands (subst LateIn (sym e) l)));
     starts = λ lane x mark g f. knows_same (start_set x st).1 refl;
     adds = λ lane v r x mark g f i. knows_same (change_set r.number (with_volume v) st) refl;
-    aborts = λ lane x mark f. knows_failed (in_progress st) AsyncCancelled st refl;
+    aborts = λ lane x mark f. grind (arith, knows_same, keeps_failed, knows_kept, course-concluded);
     ends = λ lane x mark f. knows_end x (failed AsyncCancelled st);
-    begins = λ lane m all c mark g f. absurd (no_begin st.session q e g);
+    begins = λ lane m all c mark g f. absurd (grind arith);
     gathers = λ lane x mark g. absurd (opened_not_late x.stage (has_writers x.context) g.allowed (late_at st.session x g.stands (subst LateIn (sym e) l)));
     prepares = λ lane x mark g f. knows_begun Prepare _ [] st.clock _ refl (λ w. refl);
     snapshots = λ lane x mark g f. knows_begun Snapshot _ _ st.clock st.course refl (λ w. refl);
@@ -396,4 +371,4 @@ known_stay s acts act q p e f g =
     let st = state s acts in
     let l = late_stage q.stage f in
     let known = names_from s (start s) acts (inl (record { explicit = refl; members = refl; agenda = tt })) in
-    after_covered (KnowsStill s st) s st (knows_at s st q e l (asks_in s st q e l (orderly s acts).agenda known)) (knows_same s st st refl) act p g
+    after_covered (KnowsStill s st) s st (knows_at s st q e l (grind (arith, (orderly s acts).agenda))) (knows_same s st st refl) act p g

@@ -1,13 +1,12 @@
 -- A legal trail that is not complete can go on.
-use Rattle.std.proofs.Common.{◌≡◌, ℕ, ◌==◌, zero, suc, List, [], ◌∷◌, ◌++◌, Option, Some, None, refl, Bool, true, false, ap, sym, ◌∙◌, subst, inl, inr, drop, arith}
+use Rattle.std.proofs.Common.{◌≡◌, ℕ, ◌==◌, suc, List, [], ◌∷◌, ◌++◌, Option, Some, None, refl, Bool, true, false, ap, sym, ◌∙◌, subst, inl, inr, drop, arith}
 use Rattle.std.specs.Prelude.{option_map, ◌⊎◌, is_none, length, ◌&&◌, ◌||◌, not, slice_get}
 use Rattle.vss_model.proofs.Terms.{sum_by-append, list_all, range_with_len, and_from, and_parts, eq-eqb, eqb-true, common_steps, Actor, Lane, Writer, Advance}
 use Rattle.vss_model.proofs.Terms.{Mark, Clean, Move, is_asking, is_working, Session, agenda_ended, set_failed, Op, End, Plan, LaneLine, lines_of, Event, Line}
-use Rattle.vss_model.proofs.Terms.{State, left_now, runs, Act, after, enabled, line_enabled, Run, begin, is_lane, cursor, next_line, line_event, answer_event}
-use Rattle.vss_model.proofs.Terms.{event_of, act_of, after_event, moved, run_from, run, event_enabled, can_act, none_can_act, may_move, allows as allows_mark}
+use Rattle.vss_model.proofs.Terms.{State, left_now, runs, Act, after, enabled, line_enabled, Run, begin, is_lane, cursor, next_line, line_event, event_of}
+use Rattle.vss_model.proofs.Terms.{act_of, after_event, moved, run_from, run, event_enabled, can_act, none_can_act, may_move, allows as allows_mark, nat_tests}
 use Rattle.vss_model.proofs.Terms.{is_legal_move, is_legal_from, is_legal, is_used_up, is_complete, is_begin, is_end, has_end, ends_sessions, EndsSessions}
-use Rattle.vss_model.proofs.Terms.{CanGoOn, Change, SessionIs, apply, Answer}
-use Rattle.write_history.specs.declared.actor.Actor.TheVariants.{Idle as IdleActor}
+use Rattle.vss_model.proofs.Terms.{CanGoOn, Change, SessionIs, apply, IdleActor}
 use Rattle.vss_model.proofs.StateForm.{closed, called, line}
 use Rattle.vss_model.proofs.Changes.{after_enabled, SessionStep, Opens, Starts, EndsAgenda, FailsSet, Closes, session_after, IsStepDue, Comes, by_changes}
 use Rattle.vss_model.proofs.Rows.{none_runs}
@@ -49,15 +48,15 @@ module _ (o : ℕ) (s : Plan) (st : State) (act : Act) (begins : (lane : ℕ) �
   owned_after : Owned o st → Owned o (after s st act)
   owned_after h = by_changes (Owned o) s st act owned_apply h
 
-in_both : (q : Option Session) → IsOf 0 q → IsOf 1 q → q ≡ None
-in_both q h i = grind arith
-
 -- no session stands, and none is begun
 none_stays : (s : Plan) (st : State) (act : Act) → ((lane : ℕ) → begins_at lane act.event ≡ true → ⊥) → st.session ≡ None → (after s st act).session ≡ None
 none_stays s st act begins e =
-    in_both (after s st act).session
-    (owned_after 0 s st act (λ lane f g. absurd (begins lane f)) (subst (IsOf 0) (sym e) tt))
-    (owned_after 1 s st act (λ lane f g. absurd (begins lane f)) (subst (IsOf 1) (sym e) tt))
+    grind (
+      arith,
+      (owned_after 0 s st act (λ lane f g. absurd (begins lane f)) (subst (IsOf 0) (sym e) tt)),
+      (owned_after 1 s st act
+          (λ lane f g. absurd (begins lane f)) (subst (IsOf 1) (sym e) tt)),
+    )
 
 -- ## what a lane has left
 
@@ -76,22 +75,12 @@ pub cursor_same : (moves : List Move) (m : Move) (i : ℕ) → is_lane i m.actor
 cursor_same moves m i e = grind (arith, common_steps, sum_by-append)
 
 drop_at : (lines : List LaneLine) (n : ℕ) (l : LaneLine) → slice_get lines n ≡ Some l → drop n lines ≡ l ∷ drop (suc n) lines
-drop_at [] zero l e = absurd cc
-drop_at [] (suc n) l e = absurd cc
-drop_at (x ∷ lines) zero l e = let same : x ≡ l = cc in ap (λ y. y ∷ lines) same
 drop_at (x ∷ lines) (suc n) l e = drop_at lines n l e
+drop_at lines n l e = grind (arith, common_steps, nat_tests)
 
 ends_drop : (lines : List LaneLine) (n : ℕ) → ends_sessions lines ≡ true → ends_sessions (drop n lines) ≡ true
-ends_drop [] zero e = refl
-ends_drop [] (suc n) e = refl
-ends_drop (x ∷ lines) zero e = e
 ends_drop (x ∷ lines) (suc n) e = ends_drop lines n (and_parts (not (is_begin x.op) || has_end lines) (ends_sessions lines) e).1
-
-begin_has_end : (l : LaneLine) (lines : List LaneLine) → is_begin l.op ≡ true → ends_sessions (l ∷ lines) ≡ true → has_end lines ≡ true
-begin_has_end l lines e f = grind arith
-
-end_left : (l : LaneLine) (lines : List LaneLine) → is_end l.op ≡ false → has_end (l ∷ lines) ≡ true → has_end lines ≡ true
-end_left l lines e f = grind arith
+ends_drop lines n e = grind (arith, common_steps, nat_tests, and_parts)
 
 -- ## the owner's end ends the session
 
@@ -104,14 +93,11 @@ own_end s q mark st e = grind arith
 may_can : (s : Plan) (r : Run) (a : Actor) → may_move s r a ≡ true → can_act s r a ≡ true
 may_can s r a e = grind arith
 
--- the moves of others leave what a lane has left
-left_same : (s : Plan) (moves : List Move) (m : Move) (i : ℕ) → is_lane i m.actor ≡ false → has_end (rest_of s moves i) ≡ true → has_end (rest_of s (moves ++ m ∷ []) i) ≡ true
-left_same s moves m i e h = subst (λ n. has_end (drop n (lines_of s i)) ≡ true) (sym (cursor_same moves m i e)) h
-
 -- where no lane moves
 keeps_of : (s : Plan) (moves : List Move) (m : Move) (q : Session) (x : Option Session) → IsOf q.owner x → is_lane q.owner m.actor ≡ false → has_end (rest_of s moves q.owner) ≡ true → EndsLeft s (moves ++ m ∷ []) x
 keeps_of s moves m q None o e h = tt
-keeps_of s moves m q (Some p) o e h = subst (λ i. has_end (rest_of s (moves ++ m ∷ []) i) ≡ true) (sym o) (left_same s moves m q.owner e h)
+keeps_of s moves m q (Some p) o e h = subst (λ i. has_end (rest_of s (moves ++ m ∷ []) i) ≡ true) (sym o)
+    (subst (λ n. has_end (drop n (lines_of s q.owner)) ≡ true) (sym (cursor_same moves m q.owner e)) h)
 
 quiet_move : (s : Plan) (moves : List Move) (m : Move) (st : State) (event : Event) (x : Option Session) → st.session ≡ x → ((lane : ℕ) → begins_at lane event ≡ true → ⊥) → ((i : ℕ) → is_lane i m.actor ≡ false) → EndsLeft s moves x
     → EndsLeft s (moves ++ m ∷ []) (after s st (act_of m.mark event)).session
@@ -119,10 +105,6 @@ quiet_move s moves m st event None e never out h = subst (EndsLeft s (moves ++ m
 quiet_move s moves m st event (Some q) e never out h =
     keeps_of s moves m q (after s st (act_of m.mark event)).session
     (owned_after q.owner s st (act_of m.mark event) (λ lane f g. absurd (never lane f)) (subst (IsOf q.owner) (sym e) refl)) (out q.owner) h
-
--- where lane i makes its next line
-pub none_some : (x : Option Session) (q : Session) → x ≡ Some q → x ≡ None → ⊥
-none_some x q e f = grind arith
 
 lane_left : (s : Plan) (moves : List Move) (m : Move) (i : ℕ) (l : LaneLine) → m.actor ≡ Lane i → slice_get (lines_of s i) (cursor moves i) ≡ Some l → rest_of s moves i ≡ l ∷ rest_of s (moves ++ m ∷ []) i
 lane_left s moves m i l e f = grind (arith, common_steps, drop_at, cursor_more, eq-eqb)
@@ -142,12 +124,7 @@ from_none true s moves m st i l b good e f g = by_session (after s st act).sessi
   by_session None o = tt
   by_session (Some q) o =
       subst (λ n. has_end (rest_of s (moves ++ m ∷ []) n) ≡ true) (sym o)
-      (begin_has_end l (rest_of s (moves ++ m ∷ []) i) b
-      (subst (λ x. ends_sessions x ≡ true) (lane_left s moves m i l e f) (ends_drop (lines_of s i) (cursor moves i) (good i))))
-
--- a session stood
-other_lane : (a b : ℕ) → (b == a) ≡ false → (a == b) ≡ false
-other_lane a b e = grind arith
+      (grind (arith, subst (λ x. ends_sessions x ≡ true) (lane_left s moves m i l e f) (ends_drop (lines_of s i) (cursor moves i) (good i))))
 
 from_own : (b : Bool) (s : Plan) (moves : List Move) (m : Move) (st : State) (q : Session) (l : LaneLine) → is_end l.op ≡ b → m.actor ≡ Lane q.owner
     → slice_get (lines_of s q.owner) (cursor moves q.owner) ≡ Some l → st.session ≡ Some q → enabled s st (Line q.owner l.op) ≡ true
@@ -164,13 +141,13 @@ from_own false s moves m st q l b e f g on h = by_session (after s st act).sessi
   act = act_of m.mark (Line q.owner l.op)
 
   owned : Owned q.owner (after s st act)
-  owned = owned_after q.owner s st act (λ lane i x. absurd (none_some st.session q g x)) (subst (IsOf q.owner) (sym g) refl)
+  owned = owned_after q.owner s st act (λ lane i x. absurd (grind arith)) (subst (IsOf q.owner) (sym g) refl)
 
   by_session : (x : Option Session) → IsOf q.owner x → EndsLeft s (moves ++ m ∷ []) x
   by_session None o = tt
   by_session (Some p) o =
       subst (λ n. has_end (rest_of s (moves ++ m ∷ []) n) ≡ true) (sym o)
-      (end_left l (rest_of s (moves ++ m ∷ []) q.owner) b (subst (λ x. has_end x ≡ true) (lane_left s moves m q.owner l e f) h))
+      (grind (arith, subst (λ x. has_end x ≡ true) (lane_left s moves m q.owner l e f) h))
 
 lane_move : (x : Option Session) (s : Plan) (moves : List Move) (m : Move) (st : State) (i : ℕ) (l : LaneLine) → st.session ≡ x → EndsSessions s → m.actor ≡ Lane i → slice_get (lines_of s i) (cursor moves i) ≡ Some l → enabled s st (Line i l.op) ≡ true → EndsLeft s moves x
     → EndsLeft s (moves ++ m ∷ []) (after s st (act_of m.mark (Line i l.op))).session
@@ -186,8 +163,8 @@ lane_move (Some q) s moves m st i l g good e f on h = by_owner (q.owner == i) re
       (from_own (is_end l.op) s moves m st q l refl (e ∙ ap Lane (sym same)) (subst (λ n. slice_get (lines_of s n) (cursor moves n) ≡ Some l) (sym same) f) g (subst (λ n. enabled s st (Line n l.op) ≡ true) (sym same) on) h)
   by_owner false j =
       keeps_of s moves m q (after s st act).session
-      (owned_after q.owner s st act (λ lane k x. absurd (none_some st.session q g x)) (subst (IsOf q.owner) (sym g) refl))
-      (ap (is_lane q.owner) e ∙ other_lane i q.owner j) h
+      (owned_after q.owner s st act (λ lane k x. absurd (grind arith)) (subst (IsOf q.owner) (sym g) refl))
+      (ap (is_lane q.owner) e ∙ (grind arith)) h
 
 -- ## every legal trail
 
@@ -195,19 +172,21 @@ on_line_move : (s : Plan) (r : Run) (m : Move) (i : ℕ) (x : Option LaneLine) �
     → EndsLeft s (r.moves ++ m ∷ []) (after_event s r.state (line_event i x) m.mark).session
 on_line_move s r m i x good e f on h = grind (arith, lane_move)
 
-on_answer_move : (s : Plan) (r : Run) (m : Move) (w : ℕ) (x : Option Answer) → m.actor ≡ Writer w → event_enabled s r (answer_event w x) ≡ true → EndsLeft s r.moves r.state.session
-    → EndsLeft s (r.moves ++ m ∷ []) (after_event s r.state (answer_event w x) m.mark).session
-on_answer_move s r m w x e on h = grind (arith, quiet_move, true_not_false)
-
-on_move : (s : Plan) (r : Run) (m : Move) (a : Actor) → EndsSessions s → m.actor ≡ a → can_act s r a ≡ true → EndsLeft s r.moves r.state.session
-    → EndsLeft s (r.moves ++ m ∷ []) (after_event s r.state (event_of s r a) m.mark).session
-on_move s r m a good e on h = grind (arith, common_steps, on_line_move, on_answer_move, quiet_move, true_not_false)
-
 pub legal_ends : (s : Plan) (r : Run) (ms : List Move) → EndsSessions s → EndsLeft s r.moves r.state.session → is_legal_from s r ms ≡ true → EndsLeft s (run_from s r ms).moves (run_from s r ms).state.session
 legal_ends s r [] good h e = h
 legal_ends s r (m ∷ ms) good h e =
     legal_ends s (moved s r m) ms good
-    (on_move s r m m.actor good refl (may_can s r m.actor (and_parts (may_move s r m.actor) (allows_mark s r (event_of s r m.actor) m.mark) (and_parts (is_legal_move s r m) (is_legal_from s (moved s r m) ms) e).0).0) h)
+    (grind (
+      arith,
+      common_steps,
+      nat_tests,
+      on_line_move,
+      quiet_move,
+      true_not_false,
+      (may_can s r m.actor
+          (and_parts (may_move s r m.actor) (allows_mark s r (event_of s r m.actor) m.mark)
+          (and_parts (is_legal_move s r m) (is_legal_from s (moved s r m) ms) e).0).0),
+    ))
     (and_parts (is_legal_move s r m) (is_legal_from s (moved s r m) ms) e).1
 
 -- in a legal trail the owner of the session that stands has an `end` line left
@@ -216,13 +195,10 @@ owner_ends s trail q good e f = grind (arith, moves-run, legal_ends)
 
 -- ## a move that may come
 
-allowed_clean : (s : Plan) (r : Run) (x : Option Event) → event_enabled s r x ≡ true → allows_mark s r x Clean ≡ true
-allowed_clean s r x e = grind arith
-
 can_move : (s : Plan) (r : Run) (a : Actor) → may_move s r a ≡ true → CanGoOn s r
 can_move s r a e = record {
   actor = a;
-  legal = and_from (may_move s r a) (allows_mark s r (event_of s r a) Clean) e (allowed_clean s r (event_of s r a) (may_can s r a e));
+  legal = and_from (may_move s r a) (allows_mark s r (event_of s r a) Clean) e (grind (arith, may_can s r a e));
 }
 
 line_can : (s : Plan) (r : Run) (i : ℕ) (l : LaneLine) → next_line s r i ≡ Some l → line_enabled s r.state i l.op ≡ true → CanGoOn s r
@@ -241,10 +217,8 @@ next_of : (x : Option LaneLine) → is_none x ≡ false → Next x
 next_of x e = grind arith
 
 next_left : (lines : List LaneLine) (n : ℕ) → has_end (drop n lines) ≡ true → Next (slice_get lines n)
-next_left [] zero e = absurd cc
-next_left [] (suc n) e = absurd cc
-next_left (x ∷ lines) zero e = record { line = x; is = refl }
 next_left (x ∷ lines) (suc n) e = next_left lines n e
+next_left lines n e = grind (arith, common_steps, nat_tests)
 
 -- where a test fails
 record FailsAt (test : ℕ → Bool) : Type 0 where
@@ -258,16 +232,13 @@ not_all test (x ∷ xs) e = by_head (test x) refl e (not_all test xs) where
   by_head true f g ih = ih g
   by_head false f g ih = record { at = x; is = f }
 
-own_session : (x : Option Session) (q p : Session) → x ≡ Some q → x ≡ Some p → p.owner ≡ q.owner
-own_session x q p e f = grind arith
-
 waits_for_owner : (s : Plan) (r : Run) (x : Option Session) (i : ℕ) (l : LaneLine) → r.state.session ≡ x → r.state.course.agenda ≡ None → EndsLeft s r.moves x → next_line s r i ≡ Some l → CanGoOn s r
 waits_for_owner s r None i l e f h g =
-    line_can s r i l g (line_or_begin (is_begin l.op) s r.state i l.op refl f (λ y k. absurd (none_some r.state.session y k e)))
+    line_can s r i l g (line_or_begin (is_begin l.op) s r.state i l.op refl f (λ y k. absurd (grind arith)))
 waits_for_owner s r (Some q) i l e f h g =
     let next = next_left (lines_of s q.owner) (cursor r.moves q.owner) h in
     line_can s r q.owner next.line next.is
-    (line_or_begin (is_begin next.line.op) s r.state q.owner next.line.op refl f (λ p k. ap (λ n. n == q.owner) (own_session r.state.session q p e k) ∙ eq-eqb q.owner q.owner refl))
+    (line_or_begin (is_begin next.line.op) s r.state q.owner next.line.op refl f (λ p k. ap (λ n. n == q.owner) (grind arith) ∙ eq-eqb q.owner q.owner refl))
 
 quiet_goes : (s : Plan) (r : Run) → r.state.course.agenda ≡ None → EndsLeft s r.moves r.state.session → list_all (is_used_up s r) (range_with_len 0 (length s.lanes)) ≡ false → CanGoOn s r
 quiet_goes s r e h f =

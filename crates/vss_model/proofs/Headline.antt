@@ -3,7 +3,6 @@ use Rattle.std.proofs.Common.{◌≡◌, ℕ, ◌+◌, ◌==◌, ◌<◌, zero, 
 use Rattle.std.proofs.Common.{subst, length, inl, inr, map, sym}
 use Rattle.std.proofs.lemmas.Option.{slice_get_within}
 use Rattle.std.specs.Prelude.{◌&&◌, ◌||◌, not, if◌then◌else◌, slice_get, ◌⊎◌, is_none, All}
-use Rattle.set_agenda.specs.Agenda.{is_held as holds, is_frozen as freezes}
 use Rattle.vss_model.proofs.Appending.{moves-run, state-append, state-run}
 use Rattle.vss_model.proofs.AtCut.{held_at_cut, frozen_at_cut}
 use Rattle.vss_model.proofs.Changes.{CourseCall, Answers, Steps, Times, Gathers, Prepares, Snapshots, Completes, Disables, called, IsDue, Stands, Comes}
@@ -15,27 +14,25 @@ use Rattle.vss_model.proofs.HeldOfSet.{held_means, frozen_means}
 use Rattle.vss_model.proofs.Volumes.{held_keeps}
 use Rattle.vss_model.proofs.OneCut.{image_shown, image_reads, image_of_set, cut_is_at}
 use Rattle.vss_model.proofs.Orderly.{IsSameRow, live-map, live_append, live_found, true_not_false}
-use Rattle.vss_model.proofs.OrderlyActs.{orderly, Moves, moves_answered, moves_stepped, moves_timed, same_changed}
+use Rattle.vss_model.proofs.OrderlyActs.{orderly, moves_answered, moves_stepped, moves_timed, same_changed}
 use Rattle.vss_model.proofs.Spoken.{frozen_own}
 use Rattle.vss_model.proofs.Terms.{list_any-append, false_from_ne_true, common_steps, Write, Image, History, point_in, Copy, Placed, copy_of, copies_of}
 use Rattle.vss_model.proofs.Terms.{copies_from, copies, Plan, SetRow, in_progress, row_of, history_in, history_of, is_held, is_frozen, Act, state, NumberedFrom}
-use Rattle.vss_model.proofs.Terms.{has_failed, is_live, AreLive, AllLive, holds_for, list_all, range_with_len, and_parts, eqb-true, cases_lt, Actor, Lane, Move}
+use Rattle.vss_model.proofs.Terms.{has_failed, is_live, AreLive, AllLive, holds_for, list_all, range_with_len, and_parts, eqb-true, cases_lt, Lane, Move}
 use Rattle.vss_model.proofs.Terms.{open_group, LaneLine, LanePlan, lines_in, lines_of, left_now, runs, cut, is_set as has_number, is_cut_group, IsShownAt}
 use Rattle.vss_model.proofs.Terms.{ReadsAsAtTheCut, LeavesNothing, IsFrozenForSet, KeepsSet, MakesEachLineOnce, Run, run, begin, run_from, moved, is_lane}
-use Rattle.vss_model.proofs.Terms.{cursor, next_line, line_event, event_of, event_enabled, may_move, allows, is_legal_move, is_legal_from, is_legal, is_used_up}
-use Rattle.vss_model.proofs.Terms.{is_over, is_complete, SetOutcome, Event, Mark, Agenda, left, is_working, failed as course_failed, released, State}
-use Rattle.vss_model.proofs.Terms.{with_volume, with_cut, after, Change, CourseIs, StartsSet, AddsVolume, IsCutAt, Settles, apply, Session, IsPlan, IsLane}
-use Rattle.vss_model.proofs.Terms.{ends_sessions, IsOfSession, EndsSessions, acts}
+use Rattle.vss_model.proofs.Terms.{cursor, event_of, event_enabled, may_move, allows, is_legal_move, is_legal_from, is_legal, is_used_up, is_over, is_complete}
+use Rattle.vss_model.proofs.Terms.{SetOutcome, Event, Mark, left, is_working, failed as course_failed, released, State, with_volume, with_cut, after}
+use Rattle.vss_model.proofs.Terms.{Change, CourseIs, StartsSet, AddsVolume, IsCutAt, Settles, apply, Session, IsPlan, IsLane, ends_sessions, IsOfSession}
+use Rattle.vss_model.proofs.Terms.{EndsSessions, acts, holds, freezes, nat_tests}
 
 -- ## What a failed set leaves, and what holds while no set is in progress.
 
 -- ## images of a failed set
 
 pub live_at : (rows : List SetRow) (hs : List History) (v : ℕ) → AllLive rows hs → AreLive rows (history_in (slice_get hs v)).images
-live_at rows [] zero h = tt
-live_at rows [] (suc v) h = tt
-live_at rows (x ∷ hs) zero h = h.0
 live_at rows (x ∷ hs) (suc v) h = live_at rows hs v h.1
+live_at rows hs v h = grind (arith, common_steps, nat_tests)
 
 -- numbers below the first are of no row
 pub no_live_below : (k n : ℕ) (rows : List SetRow) → NumberedFrom k rows → n < k → is_live rows n ≡ false
@@ -52,12 +49,9 @@ pub failed_not_live : (k n : ℕ) (rows : List SetRow) (r : SetRow) → Numbered
 failed_not_live k n [] r h e f = absurd cc
 failed_not_live k n (q ∷ rows) r h e f = failed_head (q.number == n) k n r q rows refl h.0 h.1 e f (λ g. failed_not_live (k + 1) n rows r h.1 g f)
 
-none_point_if : (b : Bool) (rows : List SetRow) (n : ℕ) (i : Image) (images : List Image) → (i.set == n) ≡ b → is_live rows n ≡ false → is_live rows i.set ≡ true → point_in n images ≡ None → (if b then Some i.point else point_in n images) ≡ None
-none_point_if b rows n i images e f g h = grind arith
-
 none_point : (rows : List SetRow) (n : ℕ) (images : List Image) → is_live rows n ≡ false → AreLive rows images → point_in n images ≡ None
 none_point rows n [] f h = refl
-none_point rows n (i ∷ images) f h = none_point_if (i.set == n) rows n i images refl f h.0 (none_point rows n images f h.1)
+none_point rows n (i ∷ images) f h = grind (arith, h.0, none_point rows n images f h.1)
 
 pub failed_keeps_nothing : (s : Plan) (acts : List Act) (n v : ℕ) (r : SetRow) → row_of (state s acts) n ≡ Some r → has_failed r.result ≡ true → point_in n (history_of (state s acts) v).images ≡ None
 failed_keeps_nothing s acts n v r e f =
@@ -83,10 +77,9 @@ none_of_volume rows n v blocks ws (i ∷ newer) f h =
 
 none_from : (rows : List SetRow) (n v : ℕ) (ps : List Placed) (hs : List History) → is_live rows n ≡ false → AllLive rows hs
     → holds_for n (copies_from v ps hs) ≡ false
-none_from rows n v [] hs f h = refl
-none_from rows n v (p ∷ ps) [] f h = refl
 none_from rows n v (p ∷ ps) (x ∷ hs) f h =
     let ih = none_from rows n (v + 1) ps hs f h.1 in let ih1 = none_from rows n v ps hs f h.1 in grind (arith, common_steps, none_in_either, none_of_volume)
+none_from rows n v ps hs f h = grind (arith, common_steps, nat_tests, none_in_either, none_of_volume)
 
 pub failed_has_no_copy : (s : Plan) (acts : List Act) (n : ℕ) (r : SetRow) (group : List Placed) → row_of (state s acts) n ≡ Some r → has_failed r.result ≡ true
     → holds_for n (copies group (state s acts).volumes) ≡ false
@@ -111,18 +104,15 @@ none_frozen s acts w e = grind (arith, common_steps, false_from_ne_true, frozen_
 abbrev pub LiveOrIdle : ℕ → State → Type 0
 LiveOrIdle n st = (is_live st.sets n ≡ true) ⊎ (st.course.agenda ≡ None)
 
-idle_moves : (a : Option Agenda) (o : SetOutcome) (b : Option Agenda) (p : SetOutcome) → a ≡ None → Moves a o b p → b ≡ None
-idle_moves a o b p e m = grind arith
-
 module _ (n : ℕ) (s : Plan) (st : State) (live : is_live st.sets n ≡ true) where
   idle_called : (e : Event) (x : State) (call : CourseCall) → IsDue st x.course call → Stands e st x call → LiveOrIdle n x
       → LiveOrIdle n (record x { course = called s st call x.course })
   unfolding course_failed released
   idle_called e x call i k (inl h) = inl h
-  idle_called e x (Answers w said) i k (inr h) = inr (idle_moves x.course.agenda x.course.outcome _ _ h (moves_answered w said st.clock x.course))
+  idle_called e x (Answers w said) i k (inr h) = inr (grind (arith, moves_answered w said st.clock x.course))
   idle_called e x (Steps ok) i k (inr h) = inr
-      (idle_moves x.course.agenda x.course.outcome _ _ h (moves_stepped ok st.clock x.course (subst (λ c. is_working (left c.agenda) ≡ true) (sym i.1) i.0)))
-  idle_called e x (Times now) i k (inr h) = inr (idle_moves x.course.agenda x.course.outcome _ _ h (moves_timed now x.course))
+      (grind (arith, moves_stepped ok st.clock x.course (subst (λ c. is_working (left c.agenda) ≡ true) (sym i.1) i.0)))
+  idle_called e x (Times now) i k (inr h) = inr (grind (arith, moves_timed now x.course))
   idle_called e x Gathers i k (inr h) = inl (ap (λ (y : State). is_live y.sets n) k ∙ live)
   idle_called e x (Prepares q) i k (inr h) = inl (ap (λ (y : State). is_live y.sets n) k ∙ live)
   idle_called e x Snapshots i k (inr h) = inl (ap (λ (y : State). is_live y.sets n) k.0 ∙ live)
@@ -197,9 +187,8 @@ leaves_nothing s so_far n r e f = grind (arith, failed_keeps_nothing, failed_has
 -- ## each line once
 
 past : (ls : List LaneLine) (k : ℕ) → is_none (slice_get ls k) ≡ true → length ls ≤ k
-past [] k e = omega arith
-past (x ∷ ls) zero e = absurd cc
 past (x ∷ ls) (suc k) e = let h = past ls k e in omega (arith, h)
+past ls k e = grind (arith, common_steps, nat_tests)
 
 pub zero_more : (x : ℕ) → 0 + x ≡ x
 zero_more x = omega arith
@@ -208,41 +197,37 @@ zero_more x = omega arith
 abbrev NonePast : Plan → List Move → Type 0
 NonePast s moves = (i : ℕ) → cursor moves i ≤ length (lines_of s i)
 
-has_line : (s : Plan) (r : Run) (j : ℕ) (o : Option LaneLine) → next_line s r j ≡ o → event_enabled s r (line_event j o) ≡ true → cursor r.moves j < length (lines_of s j)
-has_line s r j o e f = grind (arith, slice_get_within)
-
 lane_past : (s : Plan) (r : Run) (m : Move) (j i : ℕ) → m.actor ≡ Lane j → event_enabled s r (event_of s r (Lane j)) ≡ true → NonePast s r.moves → cursor (r.moves ++ m ∷ []) i ≤ length (lines_of s i)
 lane_past s r m j i e f h = own (j == i) refl where
   own : (b : Bool) → (j == i) ≡ b → cursor (r.moves ++ m ∷ []) i ≤ length (lines_of s i)
   own true g =
       let more = cursor_more r.moves m i (ap (is_lane i) e ∙ g) in
-      let here : cursor r.moves i < length (lines_of s i) = subst (λ x. cursor r.moves x < length (lines_of s x)) (eqb-true j i g) (has_line s r j (next_line s r j) refl f) in
+      let here : cursor r.moves i < length (lines_of s i) = subst (λ x. cursor r.moves x < length (lines_of s x)) (eqb-true j i g)
+      (grind (arith, slice_get_within)) in
       omega (arith, more, here)
   own false g = let less = cursor_same r.moves m i (ap (is_lane i) e ∙ g) in let here = h i in omega (arith, less, here)
-
-other_past : (s : Plan) (r : Run) (m : Move) (i : ℕ) → is_lane i m.actor ≡ false → NonePast s r.moves → cursor (r.moves ++ m ∷ []) i ≤ length (lines_of s i)
-other_past s r m i e h = let less = cursor_same r.moves m i e in let here = h i in omega (arith, less, here)
-
-move_past : (s : Plan) (r : Run) (m : Move) (a : Actor) → m.actor ≡ a → may_move s r a ≡ true → NonePast s r.moves → NonePast s (r.moves ++ m ∷ [])
-move_past s r m a e f h i = grind (arith, lane_past, other_past)
 
 past_from : (s : Plan) (r : Run) (ms : List Move) → is_legal_from s r ms ≡ true → NonePast s r.moves → NonePast s (run_from s r ms).moves
 past_from s r [] e h = h
 past_from s r (m ∷ ms) e h =
     past_from s (moved s r m) ms (and_parts (is_legal_move s r m) (is_legal_from s (moved s r m) ms) e).1
-    (move_past s r m m.actor refl (and_parts (may_move s r m.actor) (allows s r (event_of s r m.actor) m.mark) (and_parts (is_legal_move s r m) (is_legal_from s (moved s r m) ms) e).0).0 h)
+    (grind (
+      arith,
+      lane_past,
+      (and_parts (may_move s r m.actor) (allows s r (event_of s r m.actor) m.mark)
+          (and_parts (is_legal_move s r m) (is_legal_from s (moved s r m) ms) e).0).0,
+      common_steps,
+    ))
 
 -- a test that all numbers below n pass
 all_below : (p : ℕ → Bool) (a n i : ℕ) → list_all p (range_with_len a n) ≡ true → i < n → p (a + i) ≡ true
-all_below p a zero i e h = absurd (omega (arith, h))
-all_below p a (suc n) zero e h = grind (arith, common_steps, and_parts)
 all_below p a (suc n) (suc i) e h =
     let ih = all_below p (a + 1) n i (and_parts (p a) (list_all p (range_with_len (a + 1) n)) e).1 (omega (arith, h)) in grind (arith, common_steps, and_parts)
+all_below p a n i e h = grind (arith, common_steps, nat_tests, and_parts)
 
 no_lane : (lanes : List LanePlan) (i : ℕ) → length lanes ≤ i → length (lines_in (slice_get lanes i)) ≡ 0
-no_lane [] i h = refl
-no_lane (l ∷ lanes) zero h = absurd (omega (arith, h))
 no_lane (l ∷ lanes) (suc i) h = no_lane lanes i (omega (arith, h))
+no_lane lanes i h = grind (arith, common_steps, nat_tests)
 
 pub used_up : (s : Plan) (r : Run) → is_over s r ≡ true → (i : ℕ) → length (lines_of s i) ≤ cursor r.moves i
 used_up s r e i = own (cases_lt i (length s.lanes)) where

@@ -1,10 +1,8 @@
 -- The image that a volume gets of the set in progress: there is room for it, it is the newest, and until its Release it names no block.
 use Rattle.std.proofs.Common.{◌≡◌, ℕ, ◌+◌, ◌==◌, ◌<◌, ◌≤◌, suc, List, [], ◌∷◌, Some, refl, Bool, true, length, ap, ◌∙◌, arith, ◌++◌, false, filter, drop, subst}
 use Rattle.std.proofs.Common.{Option, None, map, sym, find}
-use Rattle.std.specs.Prelude.{◌&&◌, ◌||◌, not, if◌then◌else◌, slice_get, option_map, is_some, nat_le}
-use Rattle.write_history.specs.History.{names, cut as history_cut}
-use Rattle.set_agenda.specs.Agenda.{is_held as holds}
-use Rattle.vss_model.specs.Changes as change
+use Rattle.std.specs.Prelude.{◌&&◌, ◌||◌, not, if◌then◌else◌, slice_get, is_some}
+use Rattle.write_history.specs.History.{names}
 use Rattle.vss_model.proofs.AtCut.{all_said, tied_snapshot, cuts}
 use Rattle.vss_model.proofs.Changes.{IsAdd, Comes, by_all_changes}
 use Rattle.vss_model.proofs.Headline.{live_at}
@@ -20,8 +18,9 @@ use Rattle.vss_model.proofs.Terms.{eqb-true, common_steps, Image, History, point
 use Rattle.vss_model.proofs.Terms.{Act, state, NumberedFrom, has_failed, is_live, AreLive, AllLive, IsNewest, range_with_len, drop-length, eq-eqb, Write}
 use Rattle.vss_model.proofs.Terms.{blocks_named, named, used_by, Hold, Release, Agenda, has_said, plain, is_among, is_snapshot, State, is_held, list_any-append}
 use Rattle.vss_model.proofs.Terms.{SetOutcome, VssResult, Mark, without_set, open_group, change_at, is_running, left_now, has_image, row_settled, most_images}
-use Rattle.vss_model.proofs.Terms.{with_volume, row_cut, start, Event, is_cut_group, cut, Change, IsShownAt, apply}
+use Rattle.vss_model.proofs.Terms.{with_volume, start, Event, is_cut_group, cut, Change, IsShownAt, apply, holds, history_cut}
 use Rattle.vss_model.proofs.Volumes.{at, at_change, FewerIn}
+use Rattle.vss_model.specs.Changes as change
 
 -- ## The image of the set in progress is the newest of its volume: no set has a greater number, and images rise in set.
 
@@ -61,23 +60,16 @@ images_up_to rows hs v h live = grind (arith, up_to, live_number, live_at)
 abbrev pub image_of : ℕ → ℕ → Image
 image_of n p = record { set = n; point = p }
 
-image_is : (i : Image) (n p : ℕ) → i.set ≡ n → i.point ≡ p → i ≡ image_of n p
-image_is i n p e f = ap (λ x. image_of x i.point) e ∙ ap (λ y. image_of n y) f
-
 last_one : (i : Image) (n p : ℕ) (images : List Image) → i.set ≡ n → i.point ≡ p → AreLater i images → UpTo n images → IsNewest n p (i ∷ images)
-last_one i n p [] e f h u = record { older = []; is = ap (λ x. x ∷ []) (image_is i n p e f) }
+last_one i n p [] e f h u = record { older = []; is = ap (λ x. x ∷ []) (ap (λ x. image_of x i.point) e ∙ ap (λ y. image_of n y) f) }
 last_one i n p (j ∷ images) e f h u = grind (arith, common_steps)
 
 after_one : (i : Image) (n p : ℕ) (images : List Image) → IsNewest n p images → IsNewest n p (i ∷ images)
 after_one i n p images h = record { older = i ∷ h.older; is = ap (λ xs. i ∷ xs) h.is }
 
-newest_if : (b : Bool) (i : Image) (n p : ℕ) (images : List Image) → (i.set == n) ≡ b → (if b then Some i.point else point_in n images) ≡ Some p → AreLater i images → UpTo n images
-    → (point_in n images ≡ Some p → IsNewest n p images) → IsNewest n p (i ∷ images)
-newest_if b i n p images e f h u ih = grind (arith, last_one, eqb-true, after_one)
-
 newest_in : (n p writes : ℕ) (images : List Image) → AreInTime writes images → UpTo n images → point_in n images ≡ Some p → IsNewest n p images
 newest_in n p writes [] h u e = absurd cc
-newest_in n p writes (i ∷ images) h u e = newest_if (i.set == n) i n p images refl e h.1 u.1 (newest_in n p writes images h.2 u.1)
+newest_in n p writes (i ∷ images) h u e = grind (arith, last_one, eqb-true, after_one, h.1, u.1, newest_in n p writes images h.2 u.1)
 
 pub newest_image : (s : Plan) (acts : List Act) (r : SetRow) (v p : ℕ) → in_progress (state s acts) ≡ Some r → point_in r.number (history_of (state s acts) v).images ≡ Some p
     → IsNewest r.number p (history_of (state s acts) v).images
@@ -183,9 +175,6 @@ roomy_append hs (q ∷ rows) r e h = head_if (is_running q.result) h (roomy_appe
 room_if : (a b c : Bool) (x y z : VssResult) → (if a then Some x else if b then Some y else if c then Some z else None) ≡ None → c ≡ false
 room_if a b c x y z e = grind arith
 
-pub fewer_than : (most n : ℕ) → nat_le most n ≡ false → n < most
-fewer_than most n e = grind arith
-
 fewer_others : (n most : ℕ) (images : List Image) → length images < most → length (without_set n images) < most
 fewer_others n most images l = let few = few_in n images in omega (arith, l, few) where
   few_in : (n : ℕ) (images : List Image) → length (without_set n images) ≤ length images
@@ -211,16 +200,14 @@ roomy_made n u hs (Some q) r e f h = λ v g.
 
 -- ## each change
 
-roomy_cut : (n now : ℕ) (hs : List History) (o : Option SetRow) → Roomy hs o → Roomy hs (option_map (row_cut n now) o)
-roomy_cut n now hs o h = grind (arith, common_steps, number-cut, volumes-row_cut_if)
-
 on_add : (st x : State) (n v : ℕ) → IsAdd st x n v → HasRoom x → HasRoom (apply x (change.AddsVolume n v))
-on_add st x n v i h = grind (arith, common_steps, fewer_than, room_if, find-map, changed_result, roomy_added)
+on_add st x n v i h = grind (arith, common_steps, room_if, find-map, changed_result, roomy_added)
 
 on_change : (s : Plan) (e : Event) (m : Mark) (st : State) (c : Change) (x : State) → Comes s e m st x c → HasRoom x → HasRoom (apply x c)
 on_change s e m st (change.StartsSet r) x i h = roomy_append x.volumes x.sets r (ap (λ (q : SetRow). q.volumes) i.row) h
 on_change s e m st (change.AddsVolume n v) x i h = on_add st x n v i h
-on_change s e m st (change.IsCutAt n now) x i h = subst (Roomy x.volumes) (sym (find-row_cut n now x.sets)) (roomy_cut n now x.volumes (in_progress x) h)
+on_change s e m st (change.IsCutAt n now) x i h = subst (Roomy x.volumes) (sym (find-row_cut n now x.sets))
+    (grind (arith, common_steps, number-cut, volumes-row_cut_if))
 on_change s e m st (change.Settles o) x i h = roomy_settled x.volumes o x.sets h
 on_change s e m st (change.Makes n v) x i h = roomy_made n v x.volumes (in_progress x) i.0.row (ap in_progress i.1 ∙ i.0.found) i.0.number h
 on_change s e m st c x i h = roomy_fewer x.volumes (apply x c).volumes (in_progress x) (fewer_apply c x refl) h

@@ -1,24 +1,18 @@
 -- What the log of a running agenda says before the Cut step; and a snapshot agenda is that of the one set in progress.
 use Rattle.std.proofs.Common.{◌≡◌, ℕ, List, [], ◌∷◌, ◌++◌, Option, refl, Bool, true, false, map, sym, ◌∙◌, arith, Some, None, ap, fold, find}
-use Rattle.std.proofs.lemmas.Grind.{common_steps}
-pub use Rattle.std.proofs.lemmas.List.{append-nil as append_nothing}
-use Rattle.std.proofs.lemmas.List.{append_assoc}
 use Rattle.std.specs.Prelude.{◌&&◌, ◌||◌, not, option_map, if◌then◌else◌}
-use Rattle.set_agenda.specs.Agenda.{is_held as holds, is_frozen as freezes}
-use Rattle.vss_model.specs.Acts.{after}
 use Rattle.vss_model.specs.Cut.{is_cut_of, cut_if, cut_from, cut}
-use Rattle.vss_model.specs.State.{State, start}
 use Rattle.vss_model.proofs.Changes.{CourseCall, Answers, Steps, Times, Gathers, Prepares, Snapshots, Completes, Disables, called, IsDue, Stands, Comes}
 use Rattle.vss_model.proofs.Changes.{by_all_changes}
 use Rattle.vss_model.proofs.Orderly.{true_not_false}
-use Rattle.vss_model.proofs.Rows.{none_runs}
 use Rattle.vss_model.proofs.Rules.{IsKeptInLog, Running, in_log}
 use Rattle.vss_model.proofs.Terms.{list_any, list_any-append, or_from, or_left, Thaw, Said, is_ok, Group, Orders, Cut, Release, Kind, Place, Agenda, Entry}
 use Rattle.vss_model.proofs.Terms.{plain, places, is_freeze, has_said, left_from, groups_left, open_place, at_place, all_say, Plan, Act, state, nat_tests}
-use Rattle.vss_model.proofs.Terms.{Order, VssResult, SetOutcome, Ok, Mark, Gather, Prepare, Snapshot, Complete, Member, left, next_member, Course, posted}
+use Rattle.vss_model.proofs.Terms.{Order, VssResult, SetOutcome, Mark, Gather, Prepare, Snapshot, Complete, Member, Course, posted}
 use Rattle.vss_model.proofs.Terms.{failed as course_failed, settled, begun, told, answered as course_answered, worked, stepped as course_stepped}
-use Rattle.vss_model.proofs.Terms.{timed as course_timed, released, SetRow, is_running, in_progress, is_held, is_frozen, runs, has_no_volume, volumes_of}
-use Rattle.vss_model.proofs.Terms.{row_cut, Event, RunsSnapshot, IsKeptFrom, from_settled, from_answered, from_timed, Change, apply}
+use Rattle.vss_model.proofs.Terms.{timed as course_timed, released, SetRow, is_running, in_progress, is_held, is_frozen, row_cut, Event, RunsSnapshot}
+use Rattle.vss_model.proofs.Terms.{from_settled, from_answered, from_timed, Change, apply, freezes, State, start, common_steps, append_assoc, after}
+pub use Rattle.std.proofs.lemmas.List.{append-nil as append_nothing}
 
 -- ## What the log of a running agenda says: nothing but ok to Freeze, and before the Cut step nothing of a Release or a Thaw.
 -- So at the Cut step every volume is held and every participant is frozen.
@@ -61,9 +55,6 @@ either_way a b c e f g = grind arith
 pub said_stays : (log new : List Entry) (p : Place) (who : ℕ) → has_said log p who ≡ true → has_said (log ++ new) p who ≡ true
 said_stays log new p who e = grind (arith, list_any-append, or_left)
 
-cut_stays : (log new : List Entry) → is_cut_made log ≡ true → is_cut_made (log ++ new) ≡ true
-cut_stays log new e = said_stays log new (plain Cut) 0 e
-
 cut_before_in : (k : Kind) (a : Agenda) → undoes (open_place (left_from a (places k))).group ≡ true → is_cut_made a.log ≡ true
 cut_before_in k a h = grind arith
 
@@ -77,8 +68,8 @@ sound-say said now ws a e h =
     record {
       freezes = list_any-append is_refusal a.log new ∙ or_from (list_any is_refusal a.log) (list_any is_refusal new) h.freezes (any-at_place is_refusal p said now ws (λ w. e));
       cut_first = λ f. either_way (list_any is_undoing a.log) (list_any is_undoing new) (is_cut_made (a.log ++ new)) (sym (list_any-append is_undoing a.log new) ∙ f)
-          (λ g. cut_stays a.log new (h.cut_first g))
-          (λ g. cut_stays a.log new (cut_before_in a.kind a (all_false is_undoing p said now ws (undoes p.group) (λ w. refl) g)));
+          (λ g. said_stays a.log new (plain Cut) 0 (h.cut_first g))
+          (λ g. said_stays a.log new (plain Cut) 0 (cut_before_in a.kind a (all_false is_undoing p said now ws (undoes p.group) (λ w. refl) g)));
     }
 
 -- ## every act
@@ -150,16 +141,13 @@ Follows (Some a) ms o (Some b) ns p = IsSameAgenda a b ms ns o p
 abbrev pub GoesOn : Course → Course → Type 0
 GoesOn c d = Follows c.agenda c.members c.outcome d.agenda d.members d.outcome
 
-follows_said : (said : Said) (now : ℕ) (ws : List ℕ) (a : Option Agenda) (ms : List Member) (o : SetOutcome) → Follows a ms o (option_map (all_say said now ws) a) ms o
-follows_said said now ws a ms o = grind (arith, said_stays)
-
 goes_told : (o : Order) (said : Said) (now : ℕ) (ws : List ℕ) (c : Course) → GoesOn c (told o said now ws c)
 unfolding told
-goes_told o said now ws c = follows_said said now ws c.agenda c.members c.outcome
+goes_told o said now ws c = grind (arith, said_stays)
 
 goes_worked : (now : ℕ) (c : Course) → GoesOn c (worked now c)
 unfolding worked
-goes_worked now c = follows_said Ok now (next_member (left c.agenda) ∷ []) c.agenda c.members c.outcome
+goes_worked now c = grind (arith, said_stays)
 
 goes_failed : (why : VssResult) (c d : Course) → GoesOn c (course_failed why d)
 unfolding course_failed
@@ -169,18 +157,16 @@ goes_posted : (before c d : Course) → GoesOn c d → GoesOn c (posted before d
 unfolding posted
 goes_posted before c d h = h
 
-goes_kept : (c : Course) → IsKeptFrom (GoesOn c) c
-goes_kept c = grind (arith, common_steps, goes_posted, goes_told, goes_worked, goes_failed)
-
 pub goes_answered : (w : ℕ) (said : Said) (now : ℕ) (c : Course) → GoesOn c (course_answered w said now c)
-goes_answered w said now c = from_answered (GoesOn c) c (goes_kept c) w said now
+goes_answered w said now c = from_answered (GoesOn c) c (grind (arith, common_steps, goes_posted, goes_told, goes_worked, goes_failed)) w said now
 
 pub goes_stepped : (ok : Bool) (now : ℕ) (c : Course) → GoesOn c (course_stepped ok now c)
-goes_stepped true now c = goes_posted c c _ (from_settled (GoesOn c) c (goes_kept c) _ (goes_worked now c))
+goes_stepped true now c = goes_posted c c _
+    (from_settled (GoesOn c) c (grind (arith, common_steps, goes_posted, goes_told, goes_worked, goes_failed)) _ (goes_worked now c))
 goes_stepped false now c = goes_posted c c _ (goes_failed _ c c)
 
 pub goes_timed : (now : ℕ) (c : Course) → GoesOn c (course_timed now c)
-goes_timed now c = from_timed (GoesOn c) c (goes_kept c) now
+goes_timed now c = from_timed (GoesOn c) c (grind (arith, common_steps, goes_posted, goes_told, goes_worked, goes_failed)) now
 
 tied_follows : (a : Option Agenda) (ms : List Member) (o : SetOutcome) (b : Option Agenda) (ns : List Member) (p : SetOutcome) (r : Option SetRow) → Follows a ms o b ns p → Tied a ms r → Tied b ns r
 tied_follows a ms o b ns p r f h = grind arith
@@ -190,9 +176,6 @@ tied_begun : (k : Kind) (ms : List Member) (vs : List ℕ) (now : ℕ) (c : Cour
     → Tied (begun k ms vs now c).agenda (begun k ms vs now c).members r
 unfolding begun posted settled
 tied_begun k ms vs now c r h = grind arith
-
-own_set : (o p : Option SetRow) (ms : List Member) → p ≡ o → has_no_volume o ≡ false → IsOf Snapshot (volumes_of o) ms ms p
-own_set o p ms e f = grind arith
 
 -- ## the Cut step
 
@@ -216,30 +199,21 @@ tied_called s e st x (Times now) i k h = tied_follows x.course.agenda x.course.m
 tied_called s e st x Gathers i k h = tied_begun Gather _ [] st.clock _ (in_progress x) tt
 tied_called s e st x (Prepares q) i k h = tied_begun Prepare _ [] st.clock _ (in_progress x) tt
 tied_called s e st x Snapshots i k h = tied_begun Snapshot _ _ st.clock x.course (in_progress x)
-    (own_set (in_progress st) (in_progress x) x.course.members (ap in_progress k.0) k.1)
+    (grind (arith, ap in_progress k.0, k.1))
 tied_called s e st x Completes i k h = tied_begun Complete _ [] st.clock x.course (in_progress x) tt
 tied_called s e st x (Disables w) i k h = h
 tied_called s e st x _ i k h = tt
 
-quiet_tied : (st x : State) (r : Option SetRow) → x.course ≡ st.course → runs st ≡ false → Tied x.course.agenda x.course.members r
-quiet_tied st x r e f = tied_none x.course.agenda x.course.members r (ap (λ (c : Course). c.agenda) e ∙ none_runs st.course.agenda f)
-
 tied_apply : (s : Plan) (e : Event) (m : Mark) (st : State) (c : Change) (x : State) → Comes s e m st x c → IsTied x → IsTied (apply x c)
-tied_apply s e m st c x i h = grind (arith, common_steps, nat_tests, tied_called, quiet_tied, find-row_cut, tied_none)
+tied_apply s e m st c x i h = grind (arith, common_steps, nat_tests, tied_called, find-row_cut, tied_none)
 
 pub tied : (s : Plan) (acts : List Act) → IsTied (state s acts)
 tied s acts = by_all_changes IsTied s (tied_apply s) (start s) acts tt
 
 -- ## what a held volume and a frozen writer mean
 
-held_runs : (st : State) (v : ℕ) (a : Option Agenda) → st.course.agenda ≡ a → holds a v ≡ true → Tied a st.course.members (in_progress st) → RunsSnapshot st
-held_runs st v a e i h = grind arith
-
-frozen_runs : (st : State) (w : ℕ) (a : Option Agenda) → st.course.agenda ≡ a → freezes a w ≡ true → Tied a st.course.members (in_progress st) → RunsSnapshot st
-frozen_runs st w a e i h = grind arith
-
 pub held_means : (s : Plan) (acts : List Act) (v : ℕ) → is_held (state s acts) v ≡ true → RunsSnapshot (state s acts)
-held_means s acts v h = let st = state s acts in held_runs st v st.course.agenda refl h (tied s acts)
+held_means s acts v h = let st = state s acts in grind (arith, tied s acts)
 
 pub frozen_means : (s : Plan) (acts : List Act) (w : ℕ) → is_frozen (state s acts) w ≡ true → RunsSnapshot (state s acts)
-frozen_means s acts w h = let st = state s acts in frozen_runs st w st.course.agenda refl h (tied s acts)
+frozen_means s acts w h = let st = state s acts in grind (arith, tied s acts)

@@ -4,10 +4,10 @@ use Rattle.std.specs.Prelude.{slice_get, ◌&&◌}
 use Rattle.component_doc.proofs.Order.{over-more}
 use Rattle.vss_model.proofs.CourseCalls.{now_orders}
 use Rattle.vss_model.proofs.Spoken.{waits_members, among_filter, among_members}
-use Rattle.vss_model.proofs.Terms.{nat_tests, common_steps, Order, Identify, PrepareBackup, BackupComplete, Level, VssResult, Said, WriterRow, row_after, Group}
+use Rattle.vss_model.proofs.Terms.{nat_tests, common_steps, Order, Identify, PrepareBackup, BackupComplete, VssResult, Said, WriterRow, row_after}
 use Rattle.vss_model.proofs.Terms.{Orders, Kind, Gather, Prepare, Snapshot, Complete, Place, Member, Agenda, Open, plain, places, order_of, is_orders}
-use Rattle.vss_model.proofs.Terms.{members_of, waited_for, with_group, left_from, groups_left, open_place, is_among, order_now, waits_now, Course, rows_where}
-use Rattle.vss_model.proofs.Terms.{is_member, posted, failed as course_failed, settled_if, settled, told, answered as course_answered, worked}
+use Rattle.vss_model.proofs.Terms.{waited_for, with_group, left_from, groups_left, open_place, is_among, order_now, waits_now, Course, rows_where}
+use Rattle.vss_model.proofs.Terms.{is_member, posted, failed as course_failed, settled, told, answered as course_answered, worked}
 use Rattle.vss_model.proofs.Terms.{stepped as course_stepped, timed as course_timed, is_identify_failure, has_failed_identify, IsAsked, IsKeptFrom}
 use Rattle.vss_model.proofs.Terms.{from_answered, from_timed, IsKeptInCourse, course_answered as kept_answered, course_timed as kept_timed, list_all, Meta}
 use Rattle.vss_model.proofs.Terms.{Pair, Names, naming, naming_of, naming_found, naming_if, has_pair, with_pair, found_in, found_of, names_selectable}
@@ -35,18 +35,13 @@ fit_where f test k (r ∷ rows) (suc w) g = fit_where f test (k + 1) rows w (λ 
 
 -- a change of each row that keeps whether it has failed so
 fit_each : (f : WriterRow → WriterRow) → ((r : WriterRow) → is_identify_failure (f r).state ≡ is_identify_failure r.state) → (test : ℕ → Bool) (k : ℕ) (rows : List WriterRow) → AsFit rows (rows_where f test k rows)
-fit_each f same test k [] zero = refl
-fit_each f same test k [] (suc w) = refl
-fit_each f same test k (r ∷ rows) zero = grind (arith, common_steps)
 fit_each f same test k (r ∷ rows) (suc w) = fit_each f same test (k + 1) rows w
+fit_each f same test k rows x5 = grind (arith, common_steps, nat_tests)
 
 -- an order but Identify
 abbrev pub is_later : Order → Bool
 is_later Identify = false
 is_later _ = true
-
-row_fit_after : (o : Order) (said : Said) (r : WriterRow) → is_later o ≡ true → is_identify_failure (row_after o said r).state ≡ false
-row_fit_after o said r e = grind arith
 
 -- ## who is asked
 
@@ -73,9 +68,6 @@ later_in Prepare a e = later_pass (plain (Orders PrepareBackup)) (waited_for a (
 later_in Complete a e = later_pass (plain (Orders BackupComplete)) (waited_for a (plain (Orders BackupComplete))) [] (later_order BackupComplete refl) no_order
 later_in Snapshot a e = grind (arith, common_steps, later_pass, later_order, no_order)
 
-order_members : (g : Group) (a : Agenda) (l : Option Level) (w : ℕ) → is_orders g ≡ true → is_among w (members_of a g l) ≡ true → is_member a.members w ≡ true
-order_members g a l w e h = grind (arith, among_members, among_filter)
-
 -- ## calls on an agenda that gathers no more
 
 -- none of its members has failed at Identify
@@ -88,7 +80,7 @@ AsksFitIn None rows = Unit {0}
 AsksFitIn (Some a) rows = AsksFit a rows
 
 waits_fit : (a : Agenda) (rows : List WriterRow) → AsksFit a rows → is_orders (open_place (groups_left a)).group ≡ true → (w : ℕ) → is_among w (waits_now (groups_left a)) ≡ true → is_unfit rows w ≡ false
-waits_fit a rows h e w f = h.fit w (order_members (open_place (groups_left a)).group a (open_place (groups_left a)).level w e (waits_members a (places a.kind) w f))
+waits_fit a rows h e w f = h.fit w (grind (arith, among_members, among_filter, waits_members a (places a.kind) w f))
 
 -- what a call keeps: who is disabled, who takes part, and who has failed at Identify
 pub record Keeps (c d : Course) : Type 0 where
@@ -96,18 +88,13 @@ pub record Keeps (c d : Course) : Type 0 where
   pub members : d.members ≡ c.members
   pub fit : AsFit c.rows d.rows
 
-pub keeps_same : (c : Course) → Keeps c c
-keeps_same c = record { disabled = refl; members = refl; fit = λ w. refl }
-
-pub keeps_then : (c d e : Course) → Keeps c d → Keeps d e → Keeps c e
-keeps_then c d e h g = grind (arith, common_steps, nat_tests)
-
 keeps_told : (o : Order) (said : Said) (now : ℕ) (ws : List ℕ) (c : Course) → is_later o ≡ true → ((w : ℕ) → is_among w ws ≡ true → is_unfit c.rows w ≡ false) → Keeps c (told o said now ws c)
 unfolding told
 keeps_told o said now ws c e fit = record {
   disabled = refl;
   members = refl;
-  fit = λ w. fit_where (row_after o said) (λ x. is_among x ws) 0 c.rows w (λ r f. row_fit_after o said r e ∙ sym (fit w (subst (λ x. is_among x ws ≡ true) (zero_plus w) f)));
+  fit = λ w. fit_where (row_after o said) (λ x. is_among x ws) 0 c.rows w
+      (λ r f. (grind arith) ∙ sym (fit w (subst (λ x. is_among x ws ≡ true) (zero_plus w) f)));
 } where
   zero_plus : (a : ℕ) → 0 + a ≡ a
   zero_plus a = omega arith
@@ -124,9 +111,6 @@ pub keeps_posted : (before c d : Course) → Keeps c d → Keeps c (posted befor
 unfolding posted
 keeps_posted before c d h = record { disabled = h.disabled; members = h.members; fit = h.fit }
 
-keeps_closed : (a : Agenda) (c d : Course) → Keeps c d → Keeps c (settled_if true a.kind d)
-keeps_closed a c d h = record { disabled = h.disabled; members = h.members; fit = h.fit }
-
 keeps_worked : (now : ℕ) (c : Course) → Keeps c (worked now c)
 unfolding worked
 keeps_worked now c = record { disabled = refl; members = refl; fit = λ w. refl }
@@ -136,12 +120,12 @@ keeps_asked o said now ws x c e h asked = grind (arith, no_order, keeps_told, la
 
 keeps_calls : (c : Course) → AsksFitIn c.agenda c.rows → IsKeptFrom (Keeps c) c
 keeps_calls c h = record {
-  stays = keeps_same c;
+  stays = record { disabled = refl; members = refl; fit = λ w. refl };
   posts = λ before d g. keeps_posted before c d g;
   says = λ o said now ws asked. keeps_asked o said now ws c.agenda c refl h asked;
   works = λ now. keeps_worked now c;
-  fails = λ why d e g. keeps_then c d (course_failed why d) g (keeps_failed why d);
-  closes = λ a d e f g. keeps_closed a c d g;
+  fails = λ why d e g. grind (arith, common_steps, nat_tests, keeps_failed why d);
+  closes = λ a d e f g. record { disabled = g.disabled; members = g.members; fit = g.fit };
 }
 
 pub keeps_answered : (w : ℕ) (said : Said) (now : ℕ) (c : Course) → AsksFitIn c.agenda c.rows → Keeps c (course_answered w said now c)
@@ -151,7 +135,7 @@ pub keeps_timed : (now : ℕ) (c : Course) → AsksFitIn c.agenda c.rows → Kee
 keeps_timed now c h = from_timed (Keeps c) c (keeps_calls c h) now
 
 pub keeps_stepped : (ok : Bool) (now : ℕ) (c : Course) → Keeps c (course_stepped ok now c)
-keeps_stepped ok now c = grind (arith, keeps_posted, keeps_then, keeps_worked, keeps_settled, keeps_failed)
+keeps_stepped ok now c = grind (arith, keeps_posted, keeps_worked, keeps_settled, keeps_failed, common_steps, nat_tests)
 
 -- ## the participants stay, whoever is asked
 

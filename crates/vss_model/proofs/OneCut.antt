@@ -1,25 +1,23 @@
 -- Every act keeps what the images show.
-use Rattle.std.proofs.Common.{◌≡◌, ℕ, ◌+◌, ◌==◌, ◌<◌, ◌≤◌, zero, suc, List, [], ◌∷◌, ◌++◌, Option, Some, None, refl, Bool, true, false, map, length, take, ap}
+use Rattle.std.proofs.Common.{◌≡◌, ℕ, ◌+◌, ◌==◌, ◌<◌, ◌≤◌, suc, List, [], ◌∷◌, ◌++◌, Option, Some, None, refl, Bool, true, false, map, length, take, ap}
 use Rattle.std.proofs.Common.{sym, ◌∙◌, subst, find, inl, inr, arith}
 use Rattle.std.specs.Prelude.{option_map, is_some, ◌⊎◌, ◌&&◌, if◌then◌else◌, nat_lt}
 use Rattle.vss_model.proofs.Terms.{nat_tests, take-append_seam, length_push, length-map, eqb-true, cases_lt, common_steps, SetOutcome, Member, Mark, Write}
-use Rattle.vss_model.proofs.Terms.{Image, History, content, fresh, point_in, dropped, written, reverted, reverted_in_part, AreLater, AreInTime, Kind, Snapshot}
-use Rattle.vss_model.proofs.Terms.{Hold, Cut, Commit, Release, Agenda, Open, plain, same_place, has_said, left, groups_left, open_place, next_member}
-use Rattle.vss_model.proofs.Terms.{is_working, open_group, is_snapshot, is_among, Course, change_at, failed as course_failed, stepped as course_stepped}
-use Rattle.vss_model.proofs.Terms.{released, Plan, VolumeRow, State, SetRow, row_changed, Kept, is_running, in_progress, row_of, history_of, left_now, is_held}
-use Rattle.vss_model.proofs.Terms.{has_image, kept_of, row_settled, runs, is_in_set, with_volume, volumes_of, row_cut, Act, after, state, NumberedFrom}
-use Rattle.vss_model.proofs.Terms.{OverButNewest, IsOrderly, is_provider, is_cut_group, is_set, is_cut_of, cut, IsShownAt, Event, Change, Passes}
-use Rattle.vss_model.proofs.Terms.{SessionIs, StartsSet, AddsVolume, IsCutAt as CutsAt, CourseIs, Settles, Writes, Makes, Reverts, RevertsPart, DropsSet, Drops}
-use Rattle.vss_model.proofs.Terms.{Evicts, apply}
-use Rattle.write_history.specs.History.{cut as history_cut}
-use Rattle.set_agenda.specs.Agenda.{is_held as holds}
+use Rattle.vss_model.proofs.Terms.{Image, History, content, fresh, point_in, dropped, written, reverted, reverted_in_part, AreInTime, Kind, Snapshot, Hold, Cut}
+use Rattle.vss_model.proofs.Terms.{Commit, Release, Agenda, Open, plain, same_place, has_said, left, groups_left, open_place, next_member, is_working}
+use Rattle.vss_model.proofs.Terms.{open_group, is_snapshot, is_among, Course, change_at, failed as course_failed, stepped as course_stepped, released, Plan}
+use Rattle.vss_model.proofs.Terms.{VolumeRow, State, SetRow, row_changed, Kept, is_running, in_progress, row_of, history_of, left_now, is_held, has_image}
+use Rattle.vss_model.proofs.Terms.{kept_of, row_settled, runs, is_in_set, with_volume, volumes_of, row_cut, Act, after, state, NumberedFrom, OverButNewest}
+use Rattle.vss_model.proofs.Terms.{IsOrderly, is_provider, is_cut_group, is_set, is_cut_of, cut, IsShownAt, Event, Change, Passes, SessionIs, StartsSet}
+use Rattle.vss_model.proofs.Terms.{AddsVolume, IsCutAt as CutsAt, CourseIs, Settles, Writes, Makes, Reverts, RevertsPart, DropsSet, Drops, Evicts, apply, holds}
+use Rattle.vss_model.proofs.Terms.{history_cut}
 use Rattle.vss_model.proofs.StateForm.{cut_set, image_made}
 use Rattle.vss_model.specs.Cut.{cut_if, IsCutAt}
 use Rattle.vss_model.specs.Changes.{Names}
 use Rattle.vss_model.proofs.ByEvent.{some_same}
 use Rattle.vss_model.proofs.Changes.{CourseCall, Answers, Steps, Times, Gathers, Prepares, Snapshots, Completes, Disables, Fails, Releases, called, IsDue}
 use Rattle.vss_model.proofs.Changes.{Stands, Comes, is_end, by_changes}
-use Rattle.vss_model.proofs.CutStep.{gives_image, no_image_given, fewer_apply, both, working_at_cut, working_at_commit, has_set, by_cut, by_image, is_commit}
+use Rattle.vss_model.proofs.CutStep.{gives_image, fewer_apply, both, working_at_commit, has_set, by_cut, by_image, is_commit}
 use Rattle.vss_model.proofs.CutStep.{IsAtCommit, at_commit, SaysStep, says_stepped}
 use Rattle.vss_model.proofs.Rows.{found_passes, none_runs, number-cut}
 use Rattle.vss_model.proofs.Appending.{state-append, by_last}
@@ -31,7 +29,7 @@ use Rattle.vss_model.proofs.Volumes.{rewrites, same_writes, held_unwritten, at, 
 use Rattle.vss_model.proofs.AtCut.{IsAtCut, CutsNow, cuts, cut_is_open, all_said, tied_to}
 use Rattle.vss_model.proofs.Rules.{Running}
 use Rattle.vss_model.proofs.Spoken.{HoldsFirst, held_first, CommitsFirst, commits_first, SaidIn, MakesNone, said_called}
-use Rattle.vss_model.proofs.CutHistory.{Above, Shown, no_greater, Known, writes_at, ShownIn, IsShown, AllShown, shown-filter, shown-reverted}
+use Rattle.vss_model.proofs.CutHistory.{Shown, Known, writes_at, ShownIn, IsShown, AllShown, shown-filter, shown-reverted}
 use Rattle.vss_model.proofs.CutHistory.{shown-reverted_in_part, shown-dropped, shown-written, shown-cut, shown_along, point_shown, append_none}
 
 -- ## facts of the set in progress
@@ -52,10 +50,6 @@ pub record IsSetFact (R : Option Agenda → Option SetRow → Type 0) (U : Optio
 module _ (R : Option Agenda → Option SetRow → Type 0) (U : Option SetRow → Type 0) (k : IsSetFact R U) where
   abbrev pub HoldsIn : Option SetRow → Option Agenda → SetOutcome → Type 0
   HoldsIn found a o = R a found ⊎ IsOver a o
-
-  -- between acts
-  pub at_rest : (x : State) → IsOrderly x → HoldsIn (in_progress x) x.course.agenda x.course.outcome → R x.course.agenda (in_progress x)
-  at_rest x i x2 = grind (arith, common_steps, nat_tests)
 
   ends_in : (found : Option SetRow) (a : Agenda) (o p : SetOutcome) (b : Bool) → is_running p ≡ b → EndsIn a.kind o p → R (Some a) found → HoldsIn found None p
   ends_in found a o p b e m h = grind (arith, common_steps, nat_tests)
@@ -93,10 +87,6 @@ module _ (R : Option Agenda → Option SetRow → Type 0) (U : Option SetRow →
     on_called (Fails why) i j h = inr (refl, refl)
     on_called Releases i j h = inl (subst (R None) (sym j.0) (k.none None))
 
-  pub on_settled : (x : State) (o : SetOutcome) → (x.course.agenda ≡ None) × (o ≡ x.course.outcome) → HoldsIn (in_progress x) x.course.agenda x.course.outcome
-      → R x.course.agenda (in_progress (apply x (Settles o)))
-  on_settled x o i x3 = grind (arith, common_steps, nat_tests, find-settled_over, find-settled_running)
-
 -- ## the fact
 
 -- the writes of a volume are those at the cut until it is released; m says whether it was held before the act
@@ -126,12 +116,6 @@ abbrev pub Uncut : Known → Option SetRow → Type 0
 Uncut k None = Unit {0}
 Uncut k (Some r) = k r.number ≡ None
 
-made_in_none : (m : ℕ → Bool) (n : ℕ) (hs : List History) (o : Option State) → o ≡ None → (a : Option Agenda) → MadeIn m n hs o a
-made_in_none m n hs o e a = grind arith
-
-since_later : (b c d : Bool) (old new : List Write) → (c ≡ true → d ≡ true) → Since b c old new → Since b d old new
-since_later b c d old new f h = grind arith
-
 unsaid_before : (b c : Bool) → (b ≡ true → c ≡ true) → c ≡ false → b ≡ false
 unsaid_before b c f e = grind arith
 
@@ -142,7 +126,7 @@ made_goes m n hs (Some y) a b ms ns o p s h = record {
   snapshot = ap is_snapshot s.kind ∙ h.snapshot;
   cut = s.said (plain Cut) 0 h.cut;
   volumes = s.volumes ∙ h.volumes;
-  still = λ u e. since_later (m u) _ _ _ _ (s.said (plain Release) u) (h.still u (subst (λ vs. is_among u vs ≡ true) s.volumes e));
+  still = λ u e. grind (arith, s.said (plain Release) u, h.still u (subst (λ vs. is_among u vs ≡ true) s.volumes e));
   none = λ u e. h.none u (unsaid_before _ _ (s.said (plain Commit) u) e);
 }
 
@@ -152,7 +136,7 @@ progress_goes m k hs a b ms ns o p None s h = tt
 progress_goes m k hs a b ms ns o p (Some r) s h = made_goes m r.number hs (k r.number) a b ms ns o p s h
 
 pub cut_fact : (m : ℕ → Bool) (k : Known) (hs : List History) → IsSetFact (Progress m k hs) (Uncut k)
-cut_fact m k hs = grind (arith, common_steps, made_in_none, progress_goes)
+cut_fact m k hs = grind (arith, common_steps, progress_goes)
 
 -- the agenda says that the Cut step is made
 abbrev pub Cuts : Option Agenda → Type 0
@@ -171,9 +155,6 @@ pub record IsCut (m : ℕ → Bool) (k : Known) (x : State) : Type 0 where
 -- at the end of an act it does not matter which volumes were held before
 abbrev pub always : ℕ → Bool
 always v = true
-
-since_rest : (b c : Bool) (old new : List Write) → Since b c old new → Since true c old new
-since_rest b c old new h = grind arith
 
 since_held : (b c : Bool) (old new : List Write) → (b ≡ false → c ≡ true) → Since true c old new → Since b c old new
 since_held b c old new f h = grind arith
@@ -201,14 +182,10 @@ to_rest : (m : ℕ → Bool) (k : Known) (x : State) → IsCut m k x → IsCut a
 to_rest m k x h = record {
   shown = h.shown;
   progress = holds_along m always k x.volumes x.volumes x
-      (λ n y b e g. record { snapshot = g.snapshot; cut = g.cut; volumes = g.volumes; still = λ u i. since_rest (m u) _ _ _ (g.still u i); none = g.none }) h.progress;
+      (λ n y b e g. record { snapshot = g.snapshot; cut = g.cut; volumes = g.volumes; still = λ u i. grind (arith, g.still u i); none = g.none }) h.progress;
   known = h.known;
   fresh = h.fresh;
 }
-
--- once the Cut step is made, a volume of the set that is not held is released
-released_since : (a : Agenda) (u : ℕ) → is_snapshot a.kind ≡ true → has_said a.log (plain Hold) u ≡ true → holds (Some a) u ≡ false → has_said a.log (plain Release) u ≡ true
-released_since a u e f g = grind (arith, common_steps)
 
 to_act : (s : Plan) (acts : List Act) (k : Known) → IsCut always k (state s acts) → IsCut (is_held (state s acts)) k (state s acts)
 to_act s acts k h =
@@ -221,8 +198,14 @@ to_act s acts k h =
             cut = g.cut;
             volumes = g.volumes;
             still = λ u i. since_held (is_held st u) _ _ _
-                (λ free. released_since b u g.snapshot (all_said b.log (plain Hold) b.volumes u (subst (Running HoldsFirst) e (held_first s acts) g.cut) i)
-                (sym (ap (λ (o : Option Agenda). holds o u) e) ∙ free)) (g.still u i);
+                (λ free. grind (
+                  arith,
+                  common_steps,
+                  g.snapshot,
+                  (all_said b.log (plain Hold) b.volumes u
+                      (subst (Running HoldsFirst) e (held_first s acts) g.cut) i),
+                  (sym (ap (λ (o : Option Agenda). holds o u) e) ∙ free),
+                )) (g.still u i);
             none = g.none;
           })
           h.progress;
@@ -243,17 +226,10 @@ no_cut s e m st x c f i = grind (arith, common_steps)
 fresh_length : (k : Known) (m n : ℕ) → m ≡ n → ((i : ℕ) → n < i → k i ≡ None) → (i : ℕ) → m < i → k i ≡ None
 fresh_length k m n e h i l = h i (subst (λ x. x < i) e l)
 
-progress_same : (m : ℕ → Bool) (k : Known) (hs : List History) (a : Option Agenda) (f : SetRow → SetRow) → ((r : SetRow) → (f r).number ≡ r.number) → (o : Option SetRow) → Progress m k hs a o
-    → Progress m k hs a (option_map f o)
-progress_same m k hs a f same o h = grind arith
-
-known_same : (k : Known) (f : SetRow → SetRow) → ((r : SetRow) → (f r).number ≡ r.number) → (o : Option SetRow) → KnownNow k o → KnownNow k (option_map f o)
-known_same k f same o h = grind arith
-
 -- a set is started: it was not cut
 found_append : (m : ℕ → Bool) (k : Known) (hs : List History) (a : Option Agenda) (rows : List SetRow) (r : SetRow) → k r.number ≡ None → Progress m k hs a (find (λ q. is_running q.result) rows)
     → Progress m k hs a (find (λ q. is_running q.result) (rows ++ r ∷ []))
-found_append m k hs a [] r e h = grind (arith, common_steps, made_in_none)
+found_append m k hs a [] r e h = grind (arith, common_steps)
 found_append m k hs a (q ∷ rows) r e h = head_if (is_running q.result) h (found_append m k hs a rows r e) where
   head_if : (b : Bool) → Progress m k hs a (if b then Some q else find (λ q. is_running q.result) rows)
       → (Progress m k hs a (find (λ q. is_running q.result) rows) → Progress m k hs a (find (λ q. is_running q.result) (rows ++ r ∷ [])))
@@ -274,14 +250,14 @@ rows_change m k f number result x h =
     record {
       shown = h.shown;
       progress = by_cases h.progress;
-      known = λ g. subst (KnownNow k) (sym same) (known_same k f number (in_progress x) (h.known g));
+      known = λ g. subst (KnownNow k) (sym same) (grind (arith, h.known g));
       fresh = fresh_length k (length (map f x.sets)) (length x.sets) (length-map x.sets f) h.fresh;
     } where
       by_cases : Progress m k x.volumes x.course.agenda (in_progress x) ⊎ IsOver x.course.agenda x.course.outcome
           → Progress m k x.volumes x.course.agenda (find (λ r. is_running r.result) (map f x.sets)) ⊎ IsOver x.course.agenda x.course.outcome
       by_cases (inl p) = inl
           (subst (Progress m k x.volumes x.course.agenda) (sym (find-map f (λ r. ap is_running (result r)) x.sets))
-          (progress_same m k x.volumes x.course.agenda f number (in_progress x) p))
+          (grind arith))
       by_cases (inr p) = inr p
 
 -- no image is given, and no held volume is written to
@@ -313,7 +289,7 @@ module _ (m : ℕ → Bool) (k : Known) (s : Plan) (e : Event) (mark : Mark) (st
   on_end (SessionIs q) x f i h = record { shown = h.shown; progress = h.progress; known = h.known; fresh = h.fresh }
   on_end (Settles o) x f i h = record {
     shown = h.shown;
-    progress = inl (on_settled (Progress m k x.volumes) (Uncut k) (cut_fact m k x.volumes) x o i h.progress);
+    progress = inl (grind (arith, common_steps, nat_tests, find-settled_over, find-settled_running, h.progress));
     known = λ g. absurd (subst Cuts i.0 g);
     fresh = fresh_length k (length (map (row_settled o) x.sets)) (length x.sets) (length-map x.sets (row_settled o)) h.fresh;
   }
@@ -387,16 +363,8 @@ next_known k st act n = or_else (k n) (now_if (is_cut_of n st act) st)
 know_more : (k l : Known) (st : State) → ((n : ℕ) → k n ≡ l n) → IsCut always k st → IsCut always l st
 know_more k l st same h = grind arith
 
-or_none : (o : Option State) → o ≡ or_else o None
-or_none o = grind arith
-
-not_cut_now : (k : Known) (st : State) (act : Act) (n : ℕ) → (is_cut_of n st act ≡ false) → k n ≡ next_known k st act n
-not_cut_now k st act n e = or_none (k n) ∙ ap (λ b. or_else (k n) (now_if b st)) (sym e)
-
 -- the number of the set in progress is the newest
 pub newest_number : (m : ℕ) (rows : List SetRow) (r : SetRow) → NumberedFrom m rows → OverButNewest rows → find (λ q. is_running q.result) rows ≡ Some r → r.number + 1 ≡ m + length rows
-newest_number m [] r h o e = absurd cc
-newest_number m (q ∷ []) r h o e = grind (arith, common_steps)
 newest_number m (q ∷ p ∷ rows) r h o e = newest_number (m + 1) (p ∷ rows) r h.1 o.1 (rest_if (is_running q.result) o.0 e) ∙ shift m (length (p ∷ rows)) where
   rest_if : (b : Bool) → b ≡ false → (if b then Some q else find (λ x. is_running x.result) (p ∷ rows)) ≡ Some r → find (λ x. is_running x.result) (p ∷ rows) ≡ Some r
   rest_if true f g = absurd cc
@@ -404,6 +372,7 @@ newest_number m (q ∷ p ∷ rows) r h o e = newest_number (m + 1) (p ∷ rows) 
 
   shift : (a b : ℕ) → (a + 1) + b ≡ a + suc b
   shift a b = omega arith
+newest_number m rows r h o e = grind (arith, common_steps, nat_tests)
 
 -- ## the state after the Cut step
 
@@ -412,7 +381,7 @@ record IsNewest (k : Known) (st : State) (r : SetRow) : Type 0 where
   none : (m : ℕ) → r.number ≤ m → k m ≡ None
 
 pub progress_now : (k : Known) (st : State) → IsOrderly st → IsCut always k st → Progress always k st.volumes st.course.agenda (in_progress st)
-progress_now k st o h = at_rest (Progress always k st.volumes) (Uncut k) (cut_fact always k st.volumes) st o h.progress
+progress_now k st o h = grind (arith, common_steps, nat_tests, h.progress)
 
 number_newest : (st : State) (r : SetRow) → in_progress st ≡ Some r → IsOrderly st → r.number ≡ length st.sets
 number_newest st r e o = same r.number (length st.sets) (newest_number 1 st.sets r o.numbered o.newest e) where
@@ -440,20 +409,11 @@ newest k st r c e o h =
 cut_now : (k : Known) (st : State) (act : Act) (r : SetRow) → is_provider act.event ≡ true → is_cut_group (open_group (left_now st)) ≡ true → in_progress st ≡ Some r → k r.number ≡ None → next_known k st act r.number ≡ Some st
 cut_now k st act r e f g h = grind arith
 
-known_stays : (k : Known) (st : State) (act : Act) (m : ℕ) (y : State) → k m ≡ Some y → next_known k st act m ≡ Some y
-known_stays k st act m y e = ap (λ o. or_else o (now_if (is_cut_of m st act) st)) e
-
-later_unknown : (k : Known) (st : State) (act : Act) (r : SetRow) (m : ℕ) → in_progress st ≡ Some r → r.number < m → k m ≡ None → next_known k st act m ≡ None
-later_unknown k st act r m e l f = grind arith
-
-snapshot_over : (k : Kind) (o p : SetOutcome) → k ≡ Snapshot → EndsIn k o p → is_running p ≡ false
-snapshot_over k o p e m = grind (arith, common_steps)
-
 -- the agenda says the Cut now, or the set is over
 cut_holds : (l : Known) (n : ℕ) (y : State) (hs : List History) (a : Agenda) (o : SetOutcome) (b : Option Agenda) (p : SetOutcome) (found : Option SetRow) → l n ≡ Some y
     → ((q : SetRow) → found ≡ Some q → q.number ≡ n) → a.kind ≡ Snapshot → Moves (Some a) o b p → ((x : Agenda) → b ≡ Some x → IsSince always n y x hs)
     → HoldsIn (Progress always l hs) (Uncut l) (cut_fact always l hs) found b p
-cut_holds l n y hs a o None p found e f g m h = inr (refl, snapshot_over a.kind o p g m)
+cut_holds l n y hs a o None p found e f g m h = inr (refl, grind (arith, common_steps))
 cut_holds l n y hs a o (Some b) p None e f g m h = inl tt
 cut_holds l n y hs a o (Some b) p (Some q) e f g m h =
     let same = f q refl in
@@ -480,7 +440,7 @@ on_cut k act st r p g c e o h =
     let uncut = new.none r.number (own r.number) in
     let known = cut_now k st act r p g e uncut in
     let moves : Moves (Some c.agenda) st.course.outcome d.agenda d.outcome = subst (λ a. Moves a st.course.outcome d.agenda d.outcome) c.runs
-    (moves_stepped true st.clock st.course (working_at_cut (left_now st) g)) in
+    (moves_stepped true st.clock st.course (grind arith)) in
     let goes : Follows (Some c.agenda) st.course.members st.course.outcome d.agenda d.members d.outcome
     = subst (λ a. Follows a st.course.members st.course.outcome d.agenda d.members d.outcome) c.runs (goes_stepped true st.clock st.course) in
     let place = cut_place c.agenda c.kind c.at in
@@ -488,13 +448,13 @@ on_cut k act st r p g c e o h =
     (subst (λ w. SaysStep (open_place (left st.course.agenda)) w d.agenda) (ap (λ a. next_member (left a)) c.runs ∙ place.1) (says_stepped st.clock st.course)) in
     let found = find-row_cut r.number st.clock st.sets ∙ ap (option_map (row_cut r.number st.clock)) e in
     record {
-      shown = λ v. shown_along k l v _ _ (known_stays k st act) (h.shown v);
+      shown = λ v. shown_along k l v _ _ (λ z y g. ap (λ o. or_else o (now_if (is_cut_of z st act) st)) g) (h.shown v);
       progress = cut_holds l r.number st st.volumes c.agenda st.course.outcome d.agenda d.outcome _ known
           (λ q f. ap (λ (x : SetRow). x.number) (some_same _ _ (sym f ∙ found)) ∙ number-cut (r.number == r.number) st.clock r) c.kind moves
           (λ b f. since b (subst (λ a. Follows (Some c.agenda) st.course.members st.course.outcome a d.members d.outcome) f goes) (subst (SaysStep (plain Cut) 0) f says) uncut);
       known = λ i. subst (KnownNow l) (sym found) (ap is_some (ap l (number-cut (r.number == r.number) st.clock r) ∙ known));
       fresh = fresh_length l (length (map (row_cut r.number st.clock) st.sets)) (length st.sets) (length-map st.sets (row_cut r.number st.clock))
-          (λ m i. later_unknown k st act r m e (along r.number (length st.sets) m new.number i) (h.fresh m i));
+          (λ m i. grind (arith, along r.number (length st.sets) m new.number i, h.fresh m i));
     }
   where
     own : (a : ℕ) → a ≤ a
@@ -608,7 +568,8 @@ module _ (s : Plan) (past : List Act) (act : Act) (k : Known) (h : IsCut always 
   as_before e g =
       let st = state s past in
       know_more k (next_known k st act) (after s st act)
-      (λ n. not_cut_now k st act n (parts_not (is_provider act.event) (is_cut_group (open_group (left_now st))) (is_set n (in_progress st)) e)) g
+      (λ n. (grind (arith, common_steps)) ∙ ap (λ b. or_else (k n) (now_if b st))
+      (sym (parts_not (is_provider act.event) (is_cut_group (open_group (left_now st))) (is_set n (in_progress st)) e))) g
 
   on_act_if : (a b : Bool) → (is_provider act.event && is_cut_group (open_group (left_now (state s past)))) ≡ a → (is_provider act.event && is_commit (open_group (left_now (state s past)))) ≡ b
       → IsCut always (next_known k (state s past) act) (after s (state s past) act)
@@ -630,8 +591,9 @@ module _ (s : Plan) (past : List Act) (act : Act) (k : Known) (h : IsCut always 
       let held = to_act s past k h in
       as_before e (to_rest m k (after s st act)
       (by_changes (IsCut m k) s st act
-      (λ c x i g. on_change m k s act.event act.mark st (not_open (is_provider act.event) (left_now st) e) (at_rest (Progress m k st.volumes) (Uncut k) (cut_fact m k st.volumes) st (orderly s past) held.progress)
-      c x (no_cut s act.event act.mark st x c e i) (no_image_given s act.event act.mark st x c f i) (λ u j. held_unwritten s past act.event act.mark x u j c i) i g) held))
+      (λ c x i g. on_change m k s act.event act.mark st (not_open (is_provider act.event) (left_now st) e)
+      (grind (arith, common_steps, nat_tests, orderly s past, held.progress))
+      c x (no_cut s act.event act.mark st x c e i) (grind (arith, common_steps)) (λ u j. held_unwritten s past act.event act.mark x u j c i) i g) held))
 
   on_act : IsCut always (next_known k (state s past) act) (after s (state s past) act)
   on_act = on_act_if (is_provider act.event && is_cut_group (open_group (left_now (state s past)))) (is_provider act.event && is_commit (open_group (left_now (state s past)))) refl refl
@@ -645,16 +607,12 @@ state_then s o = option_map (state s) o
 abbrev pub known : Plan → List Act → Known
 known s acts n = state_then s (cut s n acts)
 
-known_step : (s : Plan) (past : List Act) (o : Option (List Act)) (b : Bool) → or_else (state_then s o) (now_if b (state s past)) ≡ state_then s (or_cut o (cut_if b past None))
-known_step s past o b = grind arith
-
 known_next : (s : Plan) (past : List Act) (act : Act) (n : ℕ) → next_known (known s past) (state s past) act n ≡ known s (past ++ act ∷ []) n
-known_next s past act n = known_step s past (cut s n past) (is_cut_of n (state s past) act) ∙ ap (state_then s) (sym (cut-append s n past act))
+known_next s past act n = (grind arith) ∙ ap (state_then s) (sym (cut-append s n past act))
 
 none_shown : (rows : List VolumeRow) (v : ℕ) → at (map (λ _. fresh) rows) v ≡ fresh
-none_shown [] v = refl
-none_shown (r ∷ rows) zero = refl
 none_shown (r ∷ rows) (suc v) = none_shown rows v
+none_shown rows v = grind (arith, common_steps, nat_tests)
 
 pub cut_all : (s : Plan) (acts : List Act) → IsCut always (known s acts) (state s acts)
 cut_all s acts = by_last (λ past. IsCut always (known s past) (state s past))
@@ -676,12 +634,9 @@ not_cut_yet s acts r c e = none_then (cut s r.number acts) ((newest (known s act
 shown_now : (s : Plan) (acts : List Act) (n v p : ℕ) → point_in n (history_of (state s acts) v).images ≡ Some p → ShownIn (known s acts n) v p (history_of (state s acts) v).writes
 shown_now s acts n v p e = point_shown (known s acts) v n p _ _ e ((cut_all s acts).shown v)
 
-shown_by : (s : Plan) (v p : ℕ) (ws : List Write) (o : Option (List Act)) → ShownIn (state_then s o) v p ws → IsShownAt s v p ws o
-shown_by s v p ws o h = grind (arith, take-append_seam)
-
 -- an image shows its volume at its set's cut
 pub image_shown : (s : Plan) (acts : List Act) (n v p : ℕ) → point_in n (history_of (state s acts) v).images ≡ Some p → IsShownAt s v p (history_of (state s acts) v).writes (cut s n acts)
-image_shown s acts n v p e = shown_by s v p (history_of (state s acts) v).writes (cut s n acts) (shown_now s acts n v p e)
+image_shown s acts n v p e = grind (arith, take-append_seam, shown_now s acts n v p e)
 
 -- and stands only on a volume that its set had there
 pub image_of_set : (s : Plan) (acts : List Act) (n v p : ℕ) (before : List Act) (r : SetRow) → point_in n (history_of (state s acts) v).images ≡ Some p → cut s n acts ≡ Some before
@@ -754,12 +709,9 @@ cut_is_at s n acts before e = by_last (λ past. cut s n past ≡ Some before →
 
 -- ## images in time
 
-later_of : (i : Image) (js : List Image) → Above i js → AreLater i js
-later_of i js h = grind arith
-
 in_time : (k : Known) (v : ℕ) (ws : List Write) (images : List Image) → Shown k v ws images → AreInTime (length ws) images
 in_time k v ws [] h = tt
-in_time k v ws (i ∷ images) h = (no_greater (k i.set) v i.point ws h.0, later_of i images h.1, in_time k v ws images h.2)
+in_time k v ws (i ∷ images) h = (grind (arith, common_steps, h.0), grind (arith, h.1), in_time k v ws images h.2)
 
 pub images_in_time : (s : Plan) (acts : List Act) (v : ℕ) → AreInTime (length (history_of (state s acts) v).writes) (history_of (state s acts) v).images
 images_in_time s acts v = in_time (known s acts) v _ _ ((cut_all s acts).shown v)

@@ -2,7 +2,7 @@
 use Rattle.std.proofs.Common.{◌≡◌, ℕ, ◌+◌, ◌==◌, zero, suc, List, [], ◌∷◌, ◌++◌, Option, Some, None, refl, Bool, true, false, map, filter, ◌∙◌, find, length, arith}
 use Rattle.std.specs.Prelude.{option_map, ◌&&◌, ◌||◌, not, if◌then◌else◌}
 use Rattle.vss_model.proofs.Terms.{common_steps, SetOutcome, Running, Image, History, dropped, without_set, change_at, SetRow, is_running, row_settled}
-use Rattle.vss_model.proofs.Terms.{NumberedFrom, OverButNewest, has_failed, is_live, AreLive, AllLive}
+use Rattle.vss_model.proofs.Terms.{NumberedFrom, OverButNewest, has_failed, is_live, AreLive, AllLive, nat_tests}
 use Rattle.vss_model.proofs.StateForm.{images_dropped}
 
 pub true_not_false : (b : Bool) → b ≡ true → b ≡ false → ⊥
@@ -24,13 +24,9 @@ pub newest-map : (f : SetRow → SetRow) → IsSameRow f → (rows : List SetRow
 newest-map f same (r ∷ q ∷ rows) h = (same.running r ∙ h.0, newest-map f same (q ∷ rows) h.1)
 newest-map f same _ h = tt
 
--- the head of a search, by what the test says
-find_head : (b c : Bool) (x y : SetRow) (found other : Option SetRow) (f : SetRow → SetRow) → c ≡ b → y ≡ f x → other ≡ option_map f found → (if c then Some y else other) ≡ option_map f (if b then Some x else found)
-find_head b c x y found other f e g h = grind arith
-
 pub find-map : (f : SetRow → SetRow) → ((r : SetRow) → is_running (f r).result ≡ is_running r.result) → (rows : List SetRow) → find (λ r. is_running r.result) (map f rows) ≡ option_map f (find (λ r. is_running r.result) rows)
 find-map f same [] = refl
-find-map f same (r ∷ rows) = find_head (is_running r.result) (is_running (f r).result) r (f r) _ _ f (same r) refl (find-map f same rows)
+find-map f same (r ∷ rows) = grind (arith, same r, find-map f same rows)
 
 pub live-map : (f : SetRow → SetRow) → IsSameRow f → (rows : List SetRow) (n : ℕ) → is_live (map f rows) n ≡ is_live rows n
 live-map f same [] n = refl
@@ -46,13 +42,10 @@ pub all_live_along : (rows new : List SetRow) → ((n : ℕ) → is_live rows n 
 all_live_along rows new keeps [] h = tt
 all_live_along rows new keeps (x ∷ hs) h = (are_live_along rows new keeps x.images h.0, all_live_along rows new keeps hs h.1)
 
-live_if : (b : Bool) (rows : List SetRow) (i : Image) (images : List Image) → is_live rows i.set ≡ true → AreLive rows images → AreLive rows (if b then i ∷ images else images)
-live_if b rows i images e h = grind arith
-
 -- fewer images
 pub live-filter : (test : Image → Bool) (rows : List SetRow) (images : List Image) → AreLive rows images → AreLive rows (filter test images)
 live-filter test rows [] h = tt
-live-filter test rows (i ∷ images) h = live_if (test i) rows i (filter test images) h.0 (live-filter test rows images h.1)
+live-filter test rows (i ∷ images) h = grind (arith, h.0, live-filter test rows images h.1)
 
 pub live-append : (rows : List SetRow) (images : List Image) (i : Image) → AreLive rows images → is_live rows i.set ≡ true → AreLive rows (images ++ i ∷ [])
 live-append rows [] i h e = (e, tt)
@@ -76,11 +69,8 @@ number-settled_if b p r = grind arith
 pub numbered-settled : (p : SetOutcome) (n : ℕ) (rows : List SetRow) → NumberedFrom n rows → NumberedFrom n (map (row_settled p) rows)
 numbered-settled p n rows h = numbered-map (row_settled p) (λ r. number-settled_if (is_running r.result) p r) n rows h
 
-over_stays : (b : Bool) (p : SetOutcome) (r : SetRow) → is_running r.result ≡ b → b ≡ false → is_running (if b then record r { result = p } else r).result ≡ false
-over_stays b p r e f = grind arith
-
 pub newest-settled : (p : SetOutcome) (rows : List SetRow) → OverButNewest rows → OverButNewest (map (row_settled p) rows)
-newest-settled p (r ∷ q ∷ rows) h = (over_stays (is_running r.result) p r refl h.0, newest-settled p (q ∷ rows) h.1)
+newest-settled p (r ∷ q ∷ rows) h = (grind (arith, h.0), newest-settled p (q ∷ rows) h.1)
 newest-settled p _ h = tt
 
 -- where the outcome is no longer Running, no set is in progress any more
@@ -91,18 +81,10 @@ find-settled_over p e (r ∷ rows) = let ih = find-settled_over p e rows in grin
 abbrev with_result : SetOutcome → SetRow → SetRow
 with_result p r = record r { result = p }
 
-running_step : (b : Bool) (r : SetRow) (found other : Option SetRow) → is_running r.result ≡ b → other ≡ option_map (with_result Running) found
-    → (if is_running (if b then record r { result = Running } else r).result then Some (if b then record r { result = Running } else r) else other)
-    ≡ option_map (with_result Running) (if b then Some r else found)
-running_step b r found other e h = grind arith
-
 -- where it still is, the set in progress is the same
 pub find-settled_running : (rows : List SetRow) → find (λ r. is_running r.result) (map (row_settled Running) rows) ≡ option_map (with_result Running) (find (λ r. is_running r.result) rows)
 find-settled_running [] = refl
-find-settled_running (r ∷ rows) = running_step (is_running r.result) r _ _ refl (find-settled_running rows)
-
-live_settled_if : (b : Bool) (p : SetOutcome) (r : SetRow) (n : ℕ) → has_failed p ≡ false → (r.number == n && not (has_failed r.result)) ≡ true → ((if b then record r { result = p } else r).number == n && not (has_failed (if b then record r { result = p } else r).result)) ≡ true
-live_settled_if b p r n e h = grind arith
+find-settled_running (r ∷ rows) = grind (arith, find-settled_running rows)
 
 or_both : (a b c d : Bool) → (a ≡ true → c ≡ true) → (b ≡ true → d ≡ true) → (a || b) ≡ true → (c || d) ≡ true
 or_both a b c d f g h = grind arith
@@ -111,7 +93,7 @@ or_both a b c d f g h = grind arith
 pub live-settled : (p : SetOutcome) → has_failed p ≡ false → (rows : List SetRow) (n : ℕ) → is_live rows n ≡ true → is_live (map (row_settled p) rows) n ≡ true
 live-settled p e [] n h = h
 live-settled p e (r ∷ rows) n h =
-    or_both (r.number == n && not (has_failed r.result)) (is_live rows n) _ _ (live_settled_if (is_running r.result) p r n e) (live-settled p e rows n) h
+    or_both (r.number == n && not (has_failed r.result)) (is_live rows n) _ _ (λ y. grind arith) (live-settled p e rows n) h
 
 -- ## a set that fails
 
@@ -126,12 +108,9 @@ live_fails_at : (b : Bool) (p : SetOutcome) (r : SetRow) (rows : List SetRow) (n
     → (((if b then record r { result = p } else r).number == n && not (has_failed (if b then record r { result = p } else r).result)) || is_live (map (row_settled p) rows) n) ≡ true
 live_fails_at b p r rows n e o other ih h = grind (arith, common_steps, or_both, true_not_false)
 
-over_rest : (r : SetRow) (rows : List SetRow) → OverButNewest (r ∷ rows) → OverButNewest rows
-over_rest r rows o = grind arith
-
 pub live-fails : (p : SetOutcome) (rows : List SetRow) (n : ℕ) → OverButNewest rows → IsOther n (find (λ r. is_running r.result) rows) → is_live rows n ≡ true → is_live (map (row_settled p) rows) n ≡ true
 live-fails p [] n o other h = h
-live-fails p (r ∷ rows) n o other h = live_fails_at (is_running r.result) p r rows n refl o other (λ f g. live-fails p rows n (over_rest r rows o) f g) h
+live-fails p (r ∷ rows) n o other h = live_fails_at (is_running r.result) p r rows n refl o other (λ f g. live-fails p rows n (grind arith) f g) h
 
 -- its images go
 pub other_way : (a b : ℕ) → (a == b) ≡ false → (b == a) ≡ false
@@ -162,16 +141,12 @@ pub none_tail : (b : Bool) (x : SetRow) (other : Option SetRow) → (if b then S
 none_tail b x other e = grind arith
 
 pub newest-append : (rows : List SetRow) (r : SetRow) → find (λ q. is_running q.result) rows ≡ None → OverButNewest (rows ++ r ∷ [])
-newest-append [] r e = tt
-newest-append (q ∷ []) r e = (none_head (is_running q.result) q _ e, tt)
 newest-append (q ∷ x ∷ rows) r e = (none_head (is_running q.result) q _ e, newest-append (x ∷ rows) r (none_tail (is_running q.result) q _ e))
-
-append_if : (b : Bool) (q r : SetRow) (found other : Option SetRow) → (if b then Some q else found) ≡ None → other ≡ Some r → (if b then Some q else other) ≡ Some r
-append_if b q r found other e h = grind arith
+newest-append rows r e = grind (arith, common_steps, nat_tests, none_head, none_tail)
 
 pub find-append_new : (rows : List SetRow) (r : SetRow) → find (λ q. is_running q.result) rows ≡ None → is_running r.result ≡ true → find (λ q. is_running q.result) (rows ++ r ∷ []) ≡ Some r
 find-append_new [] r e f = rw f refl
-find-append_new (q ∷ rows) r e f = append_if (is_running q.result) q r _ _ e (find-append_new rows r (none_tail (is_running q.result) q _ e) f)
+find-append_new (q ∷ rows) r e f = grind (arith, find-append_new rows r (none_tail (is_running q.result) q _ e) f)
 
 pub live_append : (rows : List SetRow) (r : SetRow) (n : ℕ) → is_live rows n ≡ true → is_live (rows ++ r ∷ []) n ≡ true
 live_append rows r n h = grind (arith, common_steps, or_both)
@@ -179,11 +154,6 @@ live_append rows r n h = grind (arith, common_steps, or_both)
 pub all_live-append : (rows : List SetRow) (r : SetRow) (hs : List History) → AllLive rows hs → AllLive (rows ++ r ∷ []) hs
 all_live-append rows r hs h = all_live_along rows (rows ++ r ∷ []) (λ n g. live_append rows r n g) hs h
 
-live_found_if : (b : Bool) (q r : SetRow) (rows : List SetRow) → is_running q.result ≡ b → (if b then Some q else find (λ x. is_running x.result) rows) ≡ Some r
-    → (find (λ x. is_running x.result) rows ≡ Some r → is_live rows r.number ≡ true)
-    → ((q.number == r.number && not (has_failed q.result)) || is_live rows r.number) ≡ true
-live_found_if b q r rows f e ih = grind arith
-
 pub live_found : (rows : List SetRow) (r : SetRow) → find (λ q. is_running q.result) rows ≡ Some r → is_live rows r.number ≡ true
 live_found [] r e = absurd cc
-live_found (q ∷ rows) r e = live_found_if (is_running q.result) q r rows refl e (live_found rows r)
+live_found (q ∷ rows) r e = grind (arith, live_found rows r)

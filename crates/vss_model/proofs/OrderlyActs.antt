@@ -1,19 +1,16 @@
 -- Every act keeps the state orderly.
 use Rattle.std.proofs.Common.{◌≡◌, ℕ, ◌+◌, ◌==◌, List, [], ◌∷◌, Option, Some, None, refl, Bool, true, false, map, ap, sym, subst, find, inl, inr, length, arith}
-use Rattle.std.specs.Prelude.{option_map, is_some, ◌⊎◌, not, if◌then◌else◌}
+use Rattle.std.specs.Prelude.{option_map, is_some, ◌⊎◌, not}
 use Rattle.vss_model.proofs.Terms.{and_parts, common_steps, Context, Backup, AppRollback, NasRollback, Order, VssResult, AsyncCancelled, SetOutcome, Running}
-use Rattle.vss_model.proofs.Terms.{Failed as FailedSet, Said, Ok, Mark, History, fresh, dropped, after_set, Placed, gone_up_to, Group, Cut, Commit, Kind}
-use Rattle.vss_model.proofs.Terms.{Gather, Prepare, Snapshot, Complete, Member, Agenda, groups_left, left, all_say, is_done, is_working, next_member, Course}
-use Rattle.vss_model.proofs.Terms.{posted, failed as course_failed, outcome_after, settled_if, settled, begun, told, answered as course_answered, worked}
-use Rattle.vss_model.proofs.Terms.{stepped as course_stepped, timed as course_timed, released, Stage, Opened, Gathered, Started, Prepared, Done, Session}
-use Rattle.vss_model.proofs.Terms.{has_writers, makes_set, stage_after, agenda_ended, set_failed, is_stage, VolumeRow, Plan, State, SetRow, is_running}
-use Rattle.vss_model.proofs.Terms.{in_progress, row_changed, left_now, Ending, NothingEnds, AgendaEnds, SetFails, ending, row_settled, runs, new_set}
-use Rattle.vss_model.proofs.Terms.{with_volume, with_cut, row_cut, Act, state, LetsGo, is_early, IsOfStage, IsOfSession, snapshot_stage, WaitsFor, IsAgendaOf}
-use Rattle.vss_model.proofs.Terms.{has_failed, AreLive, AllLive, IsOrderly, IsKeptFrom, from_answered, from_stepped, from_timed}
-use Rattle.vss_names.specs.declared.set_outcome.SetOutcome.TheVariants.{Complete as CompleteSet}
-use Rattle.requestor.specs.declared.session_call.SessionCall.TheVariants as call
-use Rattle.write_history.specs.History.{cut as history_cut}
-use Rattle.vss_model.proofs.StateForm.{concluded, followed, failed_in, failed, begin_in, start_set, change_set, images_released, closed, answered, cut_set}
+use Rattle.vss_model.proofs.Terms.{Failed as FailedSet, Said, Mark, History, fresh, dropped, Placed, gone_up_to, Group, Cut, Commit, Kind, Gather, Prepare}
+use Rattle.vss_model.proofs.Terms.{Snapshot, Complete, Member, Agenda, groups_left, left, is_done, is_working, Course, posted, nat_tests}
+use Rattle.vss_model.proofs.Terms.{failed as course_failed, outcome_after, settled_if, settled, begun, told, answered as course_answered, worked}
+use Rattle.vss_model.proofs.Terms.{stepped as course_stepped, timed as course_timed, released, Stage, Opened, Started, Done, Session, has_writers, makes_set}
+use Rattle.vss_model.proofs.Terms.{stage_after, agenda_ended, set_failed, is_stage, VolumeRow, Plan, State, SetRow, is_running, in_progress, row_changed}
+use Rattle.vss_model.proofs.Terms.{left_now, Ending, NothingEnds, AgendaEnds, SetFails, ending, row_settled, runs, new_set, with_volume, with_cut, Act}
+use Rattle.vss_model.proofs.Terms.{state, LetsGo, is_early, IsOfStage, IsOfSession, WaitsFor, IsAgendaOf, has_failed, AreLive, AllLive, IsOrderly, IsKeptFrom}
+use Rattle.vss_model.proofs.Terms.{from_answered, from_stepped, from_timed, history_cut, CompleteSet}
+use Rattle.vss_model.proofs.StateForm.{concluded, followed, failed_in, failed, start_set, images_released, closed, answered, cut_set}
 use Rattle.vss_model.proofs.StateForm.{image_made, step_made, stepped_as, stepped, ticked, later, IsKeptByChanges, IsKeptByWrites}
 use Rattle.vss_model.proofs.Rows.{none_runs}
 use Rattle.vss_model.proofs.Rules.{on_after}
@@ -21,6 +18,7 @@ use Rattle.vss_model.proofs.Orderly.{IsSameRow, numbered-map, newest-map, find-m
 use Rattle.vss_model.proofs.Orderly.{all_live-change_at, numbered-settled, newest-settled, find-settled_over, find-settled_running, live-settled}
 use Rattle.vss_model.proofs.Orderly.{all_live-fails, numbered-append, newest-append, find-append_new, all_live-append, live_found, true_not_false}
 use Rattle.vss_model.proofs.Appending.{by_acts}
+use Rattle.requestor.specs.declared.session_call.SessionCall.TheVariants as call
 
 -- ## what calls do to the agenda and the outcome
 
@@ -37,19 +35,13 @@ Moves (Some a) o (Some b) p = (b.kind ≡ a.kind) × (p ≡ o)
 abbrev pub MovesOn : Course → Course → Type 0
 MovesOn c d = Moves c.agenda c.outcome d.agenda d.outcome
 
-moves_same : (a : Option Agenda) (o : SetOutcome) → Moves a o a o
-moves_same a o = grind arith
-
-moves_said : (said : Said) (now : ℕ) (ws : List ℕ) (a : Option Agenda) (o : SetOutcome) → Moves a o (option_map (all_say said now ws) a) o
-moves_said said now ws a o = grind arith
-
 moves_told : (o : Order) (said : Said) (now : ℕ) (ws : List ℕ) (c : Course) → MovesOn c (told o said now ws c)
 unfolding told
-moves_told o said now ws c = moves_said said now ws c.agenda c.outcome
+moves_told o said now ws c = grind arith
 
 moves_worked : (now : ℕ) (c : Course) → MovesOn c (worked now c)
 unfolding worked
-moves_worked now c = moves_said Ok now (next_member (left c.agenda) ∷ []) c.agenda c.outcome
+moves_worked now c = grind arith
 
 moves_failed : (why : VssResult) (a : Option Agenda) (o : SetOutcome) (d : Course) → is_some a ≡ true → Moves a o (course_failed why d).agenda (course_failed why d).outcome
 unfolding course_failed
@@ -59,17 +51,14 @@ moves_posted : (before c d : Course) → MovesOn c d → MovesOn c (posted befor
 unfolding posted
 moves_posted before c d h = h
 
-ends_from : (a : Option Agenda) (o : SetOutcome) (b : Agenda) (p : SetOutcome) → Moves a o (Some b) p → Moves a o None (outcome_after b.kind p)
-ends_from a o b p h = grind arith
-
 moves_kept : (c : Course) → IsKeptFrom (MovesOn c) c
 moves_kept c = record {
-  stays = moves_same c.agenda c.outcome;
+  stays = grind arith;
   posts = λ before d h. moves_posted before c d h;
   says = λ o said now ws e. moves_told o said now ws c;
   works = λ now. moves_worked now c;
   fails = λ why d e h. moves_failed why c.agenda c.outcome d e;
-  closes = λ a d e f h. ends_from c.agenda c.outcome a d.outcome (subst (λ x. Moves c.agenda c.outcome x d.outcome) e h);
+  closes = λ a d e f h. grind (arith, subst (λ x. Moves c.agenda c.outcome x d.outcome) e h);
 }
 
 pub moves_answered : (w : ℕ) (said : Said) (now : ℕ) (c : Course) → MovesOn c (course_answered w said now c)
@@ -83,28 +72,17 @@ moves_timed now c = from_timed (MovesOn c) c (moves_kept c) now
 
 -- ## what follows
 
--- the course goes on, and nothing ends
-goes_on : (c : Course) (st : State) → c.outcome ≡ st.course.outcome → IsAgendaOf c.agenda st.session → IsOrderly st → IsOrderly (record st { course = c })
-goes_on c st e f h = grind arith
-
--- the set fails
-session_failed : (why : VssResult) (q : Option Session) (s : Session) (o p : SetOutcome) → q ≡ Some s → IsOfSession (option_map (set_failed why) q) p None
-session_failed why q s o p e = grind arith
-
 agenda_none : (a : Option Agenda) (q : Option Session) → a ≡ None → IsAgendaOf a q
 agenda_none a q e = grind arith
 
-pub over_failed : (o : SetOutcome) → has_failed o ≡ true → is_running o ≡ false
-over_failed o e = grind arith
-
 fails : (why : VssResult) (c : Course) (st : State) (q : Session) → st.session ≡ Some q → c.agenda ≡ None → has_failed c.outcome ≡ true → IsOrderly st → IsOrderly (concluded (SetFails why) (record st { course = c }))
 fails why c st q e f g h =
-    let none = find-settled_over c.outcome (over_failed c.outcome g) st.sets in
+    let none = find-settled_over c.outcome (grind arith) st.sets in
     let Q : Option SetRow → Type 0 = λ x. IsOfSession (option_map (set_failed why) st.session) c.outcome x in
     record {
       numbered = numbered-settled c.outcome 1 st.sets h.numbered;
       newest = newest-settled c.outcome st.sets h.newest;
-      session = subst Q (sym none) (session_failed why st.session q st.course.outcome c.outcome e);
+      session = subst Q (sym none) (grind arith);
       agenda = agenda_none c.agenda _ f;
       live = all_live-fails c.outcome st.sets (in_progress st) h.newest refl st.volumes h.live;
     }
@@ -119,12 +97,6 @@ found_after _ found = option_map (λ (r : SetRow). record r { result = Running }
 find-after : (k : Kind) (rows : List SetRow) → find (λ r. is_running r.result) (map (row_settled (outcome_after k Running)) rows) ≡ found_after k (find (λ r. is_running r.result) rows)
 find-after k rows = grind (arith, find-settled_over, find-settled_running)
 
-stage_ends : (k : Kind) (c : Context) (s : Stage) (set : Option ℕ) (found : Option SetRow) → WaitsFor k c s → IsOfStage s set Running found → IsOfStage (stage_after c s) set (outcome_after k Running) (found_after k found)
-stage_ends k c s set found w h = grind arith
-
-not_failed_after : (k : Kind) → has_failed (outcome_after k Running) ≡ false
-not_failed_after k = grind arith
-
 session_along : (q : Option Session) (s : Session) (o : SetOutcome) (found : Option SetRow) → q ≡ Some s → IsOfSession q o found → IsOfStage s.stage s.set o found
 session_along q s o found e h = let Q : Option Session → Type 0 = λ x. IsOfSession x o found in subst Q e h
 
@@ -138,7 +110,8 @@ ends_running k c st q e w f g i h =
     let was : IsOfStage q.stage q.set Running (in_progress st) =
     (let R : SetOutcome → Type 0 = λ o. IsOfStage q.stage q.set o (in_progress st) in subst R g (session_along st.session q st.course.outcome (in_progress st) e h.session)) in
     let now : IsOfStage (stage_after q.context q.stage) q.set (outcome_after k Running) (find (λ r. is_running r.result) (map (row_settled (outcome_after k Running)) st.sets)) =
-    (let R : Option SetRow → Type 0 = λ x. IsOfStage (stage_after q.context q.stage) q.set (outcome_after k Running) x in subst R (sym (find-after k st.sets)) (stage_ends k q.context q.stage q.set (in_progress st) w was)) in
+    (let R : Option SetRow
+    → Type 0 = λ x. IsOfStage (stage_after q.context q.stage) q.set (outcome_after k Running) x in subst R (sym (find-after k st.sets)) (grind arith)) in
     let P : SetOutcome → Type 0 = λ o. IsOfStage (stage_after q.context q.stage) q.set o (find (λ r. is_running r.result) (map (row_settled o) st.sets)) in
     let L : SetOutcome → Type 0 = λ o. AllLive (map (row_settled o) st.sets) st.volumes in
     record {
@@ -146,15 +119,8 @@ ends_running k c st q e w f g i h =
       newest = newest-settled c.outcome st.sets h.newest;
       session = session_back st.session q c.outcome _ e (subst P (sym i) now);
       agenda = agenda_none c.agenda _ f;
-      live = subst L (sym i) (all_live_along st.sets _ (λ n live. live-settled (outcome_after k Running) (not_failed_after k) st.sets n live) st.volumes h.live);
+      live = subst L (sym i) (all_live_along st.sets _ (λ n live. live-settled (outcome_after k Running) (grind arith) st.sets n live) st.volumes h.live);
     }
-
--- the agenda ends, and the set was over
-over_found : (s : Stage) (set : Option ℕ) (o : SetOutcome) (found : Option SetRow) → is_running o ≡ false → IsOfStage s set o found → found ≡ None
-over_found s set o found e h = grind arith
-
-over_stage : (s : Stage) (set : Option ℕ) (o : SetOutcome) (found : Option SetRow) → is_running o ≡ false → IsOfStage s set o found → IsOfStage s set o None
-over_stage s set o found e h = grind arith
 
 stage_over : (k : Kind) (c : Context) (s : Stage) (set : Option ℕ) (o p : SetOutcome) → is_running o ≡ false → WaitsFor k c s → IsOfStage s set o None → IsOfStage (stage_after c s) set p None
 stage_over k c s set o p e w h = grind arith
@@ -162,18 +128,16 @@ stage_over k c s set o p e w h = grind arith
 ends_over : (k : Kind) (c : Course) (st : State) (q : Session) → st.session ≡ Some q → WaitsFor k q.context q.stage → c.agenda ≡ None → is_running st.course.outcome ≡ false → is_running c.outcome ≡ false → IsOrderly st → IsOrderly (concluded AgendaEnds (record st { course = c }))
 ends_over k c st q e w f g i h =
     let was = session_along st.session q st.course.outcome (in_progress st) e h.session in
-    let found : in_progress st ≡ None = over_found q.stage q.set st.course.outcome (in_progress st) g was in
+    let found : in_progress st ≡ None = grind arith in
     let P : Option SetRow → Type 0 = λ x. IsOfStage (stage_after q.context q.stage) q.set c.outcome x in
     record {
       numbered = numbered-settled c.outcome 1 st.sets h.numbered;
       newest = newest-settled c.outcome st.sets h.newest;
-      session = session_back st.session q c.outcome _ e (subst P (sym (find-settled_over c.outcome i st.sets)) (stage_over k q.context q.stage q.set st.course.outcome c.outcome g w (over_stage q.stage q.set st.course.outcome (in_progress st) g was)));
+      session = session_back st.session q c.outcome _ e
+          (subst P (sym (find-settled_over c.outcome i st.sets)) (stage_over k q.context q.stage q.set st.course.outcome c.outcome g w (grind arith)));
       agenda = agenda_none c.agenda _ f;
       live = all_live-fails c.outcome st.sets None h.newest found st.volumes h.live;
     }
-
-outcome_over : (k : Kind) (o p : SetOutcome) → is_running o ≡ false → EndsIn k o p → is_running p ≡ false
-outcome_over k o p e x4 = grind arith
 
 ending_regular : (k : Kind) → ending Running (outcome_after k Running) true None ≡ AgendaEnds
 ending_regular k = grind arith
@@ -190,8 +154,8 @@ ends_at Running k c st q d (inl i) e w f h =
     let R : Ending → Type 0 = λ x. IsOrderly (concluded x (record st { course = c })) in
     subst Q (sym i) (subst R (sym (ending_regular k)) (ends_running k c st q e w f d i h))
 ends_at Running k c st q d (inr g) e w f h = fails_at c.outcome c st q refl g e f h
-ends_at CompleteSet k c st q d i e w f h = ends_over k c st q e w f (ap is_running d) (outcome_over k CompleteSet c.outcome refl i) h
-ends_at (FailedSet why) k c st q d i e w f h = ends_over k c st q e w f (ap is_running d) (outcome_over k (FailedSet why) c.outcome refl i) h
+ends_at CompleteSet k c st q d i e w f h = ends_over k c st q e w f (ap is_running d) (grind arith) h
+ends_at (FailedSet why) k c st q d i e w f h = ends_over k c st q e w f (ap is_running d) (grind arith) h
 
 ends_well : (k : Kind) (c : Course) (st : State) (q : Session) → EndsIn k st.course.outcome c.outcome → st.session ≡ Some q → WaitsFor k q.context q.stage
     → c.agenda ≡ None → IsOrderly st → IsOrderly (concluded (ending st.course.outcome c.outcome true None) (record st { course = c }))
@@ -215,9 +179,9 @@ ends_session None a c st e w i f h = absurd w
 ends_session (Some q) a c st e w i f h = ends_well a.kind c st q i e w f h
 
 orderly_at : (a b : Option Agenda) (c : Course) (st : State) → st.course.agenda ≡ a → c.agenda ≡ b → Moves a st.course.outcome b c.outcome → IsOrderly st → IsOrderly (concluded (ending st.course.outcome c.outcome (is_some a) b) (record st { course = c }))
-orderly_at None None c st e f m h = grind (arith, common_steps, ending_idle, goes_on, agenda_none)
+orderly_at None None c st e f m h = grind (arith, common_steps, ending_idle, agenda_none)
 orderly_at None (Some b) c st e f m h = absurd m
-orderly_at (Some a) (Some b) c st e f m h = grind (arith, common_steps, goes_on, ending_on)
+orderly_at (Some a) (Some b) c st e f m h = grind (arith, common_steps, ending_on)
 orderly_at (Some a) None c st e f m h =
     let A : Option Agenda → Type 0 = λ x. IsAgendaOf x st.session in
     ends_session st.session a c st refl (subst A e h.agenda) m f h
@@ -232,7 +196,7 @@ begun_at : (done : Bool) (a : Agenda) (before d : Course) (st : State) (q : Sess
     → IsOrderly (concluded (ending st.course.outcome (settled_if done a.kind d).outcome true (settled_if done a.kind d).agenda) (record st { course = posted before (settled_if done a.kind d) }))
 unfolding posted
 begun_at true a before d st q e f g w h = ends_well a.kind (posted before (settled_if true a.kind d)) st q (inl (ap (λ o. outcome_after a.kind o) f)) g w refl h
-begun_at false a before d st q e f g w h = grind (arith, common_steps, ending_on, goes_on)
+begun_at false a before d st q e f g w h = grind (arith, common_steps, ending_on)
 
 begun_well : (k : Kind) (ms : List Member) (vs : List ℕ) (now : ℕ) (c : Course) (st : State) (q : Session) → c.outcome ≡ st.course.outcome → st.session ≡ Some q → WaitsFor k q.context q.stage → IsOrderly st → IsOrderly (followed true (begun k ms vs now c) st)
 unfolding followed begun posted settled
@@ -251,30 +215,29 @@ is_started s e = grind arith
 pub is_done_stage : (s : Stage) → is_stage s Done ≡ true → s ≡ Done
 is_done_stage s e = grind arith
 
-snapshot_allowed : (w : Bool) (s : Stage) → (if w then is_stage s Prepared else is_stage s Started) ≡ true → s ≡ snapshot_stage w
-snapshot_allowed w s e = grind arith
-
-start_allowed : (w : Bool) (s : Stage) → (if w then is_stage s Gathered else is_stage s Opened) ≡ true → is_early s ≡ true
-start_allowed w s e = grind arith
-
 volumes_orderly : (hs : List History) (st : State) → AllLive st.sets hs → IsOrderly st → IsOrderly (record st { volumes = hs })
 volumes_orderly hs st live h = record { numbered = h.numbered; newest = h.newest; session = h.session; agenda = h.agenda; live = live }
 
 -- ## steps
 
--- rows that keep number, running and failed
-rows_same : (f : SetRow → SetRow) → IsSameRow f → (hs : List History) (st : State) → AllLive st.sets hs → IsOrderly st → IsOrderly (record st { sets = map f st.sets; volumes = hs })
-rows_same f same hs st live h = grind (arith, common_steps, numbered-map, newest-map, find-map, all_live_along, live-map)
-
 pub same_changed : (n : ℕ) (f : SetRow → SetRow) → ((r : SetRow) → (f r).number ≡ r.number) → ((r : SetRow) → (f r).result ≡ r.result) → IsSameRow (row_changed n f)
 same_changed n f number result = grind arith
 
-orderly_cut : (r : SetRow) (st : State) → in_progress st ≡ Some r → IsOrderly st → IsOrderly (cut_set (Some r) st)
-orderly_cut r st e h = rows_same (row_cut r.number st.clock) (same_changed r.number (with_cut st.clock) (λ x. refl) (λ x. refl)) st.volumes st h.live h
-
 on_cut : (o : Option SetRow) (c : Course) (st : State) → in_progress st ≡ o → MovesOn st.course c → IsOrderly st → IsOrderly (followed (runs st) c (cut_set o st))
 on_cut None c st e m h = orderly_followed c st m h
-on_cut (Some r) c st e m h = orderly_followed c (cut_set (Some r) st) m (orderly_cut r st e h)
+on_cut (Some r) c st e m h = orderly_followed c (cut_set (Some r) st) m
+    (grind (
+      arith,
+      common_steps,
+      numbered-map,
+      newest-map,
+      find-map,
+      all_live_along,
+      live-map,
+      (same_changed r.number (with_cut st.clock) (λ x. refl)
+          (λ x. refl)),
+      h.live,
+    ))
 
 on_made : (o : Option SetRow) (v : Option ℕ) (c : Course) (st : State) → in_progress st ≡ o → MovesOn st.course c → IsOrderly st → IsOrderly (followed (runs st) c (image_made o v st))
 on_made (Some r) (Some v) c st e m h =
@@ -299,12 +262,10 @@ on_answers : (w : ℕ) (said : Said) (st : State) → IsOrderly st → IsOrderly
 unfolding answered
 on_answers w said st h = orderly_followed _ st (moves_answered w said st.clock st.course) h
 
-later_orderly : (n : ℕ) (st : State) → IsOrderly st → IsOrderly (later n st)
-later_orderly n st h = record { numbered = h.numbered; newest = h.newest; session = h.session; agenda = h.agenda; live = h.live }
-
 on_ticks : (n : ℕ) (st : State) → IsOrderly st → IsOrderly (ticked n st)
 unfolding ticked
-on_ticks n st h = orderly_followed _ (later n st) (moves_timed (st.clock + n) st.course) (later_orderly n st h)
+on_ticks n st h = orderly_followed _ (later n st) (moves_timed (st.clock + n) st.course)
+    (record { numbered = h.numbered; newest = h.newest; session = h.session; agenda = h.agenda; live = h.live })
 
 -- ## the set fails
 
@@ -325,19 +286,12 @@ none_after o why st e = grind (arith, find-settled_over)
 
 -- ## volumes and sessions
 
-gone_if : (b : Bool) (m : ℕ) (rows : List SetRow) (x : History) → AreLive rows x.images → AreLive rows (if b then record { writes = x.writes; images = after_set m x.images } else x).images
-gone_if b m rows x h = grind (arith, live-filter)
-
 live_gone : (m : ℕ) (rows : List SetRow) (ps : List Placed) (hs : List History) → AllLive rows hs → AllLive rows (gone_up_to m ps hs)
-live_gone m rows [] hs h = h
-live_gone m rows (p ∷ ps) [] h = tt
-live_gone m rows (p ∷ ps) (x ∷ hs) h = (gone_if p.within m rows x h.0, live_gone m rows ps hs h.1)
+live_gone m rows (p ∷ ps) (x ∷ hs) h = (grind (arith, live-filter, h.0), live_gone m rows ps hs h.1)
+live_gone m rows ps hs h = grind (arith, common_steps, nat_tests, live-filter)
 
 live_dropped : (n : ℕ) (rows : List SetRow) (x : History) → AreLive rows x.images → AreLive rows (dropped n x).images
 live_dropped n rows x h = live-filter (λ i. not (i.set == n)) rows x.images h
-
-on_begins : (lane : ℕ) (all : Bool) (c : Option Context) (st : State) → st.session ≡ None → IsOrderly st → IsOrderly (begin_in lane all c st).1
-on_begins lane all c st e h = grind arith
 
 stage_none : (s : Stage) (set : Option ℕ) (o : SetOutcome) (found : Option SetRow) → makes_set s ≡ false → IsOfStage s set o found → (found ≡ None) × (is_early s ≡ true → o ≡ Running)
 stage_none s set o found e h = grind arith
@@ -349,13 +303,10 @@ on_starts q st g e h =
     record {
       numbered = numbered-append 1 st.sets (new_set (length st.sets + 1) q.context) h.numbered refl;
       newest = newest-append st.sets (new_set (length st.sets + 1) q.context) was.0;
-      session = subst F (sym (find-append_new st.sets (new_set (length st.sets + 1) q.context) was.0 refl)) (refl, refl, was.1 (start_allowed (has_writers q.context) q.stage g.allowed));
+      session = subst F (sym (find-append_new st.sets (new_set (length st.sets + 1) q.context) was.0 refl)) (refl, refl, was.1 (grind (arith, g.allowed)));
       agenda = agenda_none st.course.agenda _ (none_runs st.course.agenda g.quiet);
       live = all_live-append st.sets (new_set (length st.sets + 1) q.context) st.volumes h.live;
     }
-
-on_adds : (v n : ℕ) (st : State) → IsOrderly st → IsOrderly (change_set n (with_volume v) st)
-on_adds v n st h = rows_same (row_changed n (with_volume v)) (same_changed n (with_volume v) (λ x. refl) (λ x. refl)) st.volumes st h.live h
 
 live_released : (c : Context) (set : Option ℕ) (rows : List SetRow) (hs : List History) → AllLive rows hs → AllLive rows (images_released c set hs)
 live_released Backup None rows hs h = h
@@ -379,16 +330,27 @@ kept_by_changes = record {
   prepares = λ s q st g f h.
       let may = and_parts (is_stage q.stage Started) (has_writers q.context) g.allowed in
       begun_well Prepare _ [] st.clock _ st q refl g.stands (is_started q.stage may.0, may.1) h;
-  snapshots = λ q st g f h. begun_well Snapshot st.course.members _ st.clock st.course st q refl g.stands (snapshot_allowed (has_writers q.context) q.stage g.allowed) h;
+  snapshots = λ q st g f h. begun_well Snapshot st.course.members _ st.clock st.course st q refl g.stands (grind (arith, g.allowed)) h;
   completes = λ q st g h. begun_well Complete _ [] st.clock _ st q refl g.stands (is_done_stage q.stage (and_parts (is_stage q.stage Done) (has_writers q.context) g.allowed).0) h;
   clears = λ s v b st h. volumes_orderly _ st (live_gone _ st.sets _ st.volumes h.live) h;
   deletes_set = λ n st h. volumes_orderly _ st (all_live-map (dropped n) st.sets (λ x g. live_dropped n st.sets x g) st.volumes h.live) h;
   deletes_image = λ n v st h. volumes_orderly _ st (all_live-change_at (dropped n) st.sets (λ x g. live_dropped n st.sets x g) v st.volumes h.live) h;
-  begins = on_begins;
+  begins = λ lane all c y z k. grind arith;
   names = λ q explicit st g h. record { numbered = h.numbered; newest = h.newest; session = h.session; agenda = h.agenda; live = h.live };
   disables = λ w q st g h. record { numbered = h.numbered; newest = h.newest; session = h.session; agenda = h.agenda; live = h.live };
   starts = on_starts;
-  adds = λ v r q st g e f h. on_adds v r.number st h;
+  adds = λ v r q st g e f h. grind (
+    arith,
+    common_steps,
+    numbered-map,
+    newest-map,
+    find-map,
+    all_live_along,
+    live-map,
+    (same_changed r.number (with_volume v) (λ x. refl)
+        (λ x. refl)),
+    h.live,
+  );
   ends = λ q st e h. on_closed q (failed AsyncCancelled st) (none_after (in_progress st) AsyncCancelled st refl) (on_failed_in (in_progress st) AsyncCancelled st refl h);
 }
 

@@ -63,9 +63,6 @@ pub none_below : (k n : ℕ) (rows : List SetRow) → NumberedFrom k rows → n 
 none_below k n [] h l = refl
 none_below k n (r ∷ rows) h l = let ih = none_below (k + 1) n rows h.1 (omega (arith, l)) in grind (arith, common_steps, or_from, and_left, apart_back)
 
-running_not_complete : (o : SetOutcome) → is_running o ≡ true → is_complete o ≡ false
-running_not_complete o e = grind arith
-
 -- a set whose row is not complete is not complete
 row_not_complete : (k n : ℕ) (rows : List SetRow) (r : SetRow) → NumberedFrom k rows → find (λ q. q.number == n) rows ≡ Some r → is_complete r.result ≡ false → has_complete rows n ≡ false
 row_not_complete k n [] r h e f = refl
@@ -79,18 +76,15 @@ row_not_complete k n (q ∷ rows) r h e f = by_head (q.number == n) refl e (row_
   by_head false g e ih = ih e f
 
 pub running_incomplete : (rows : List SetRow) (r : SetRow) → NumberedFrom 1 rows → find (λ q. is_running q.result) rows ≡ Some r → has_complete rows r.number ≡ false
-running_incomplete rows r h e = row_not_complete 1 r.number rows r h (row_running 1 rows r h e) (running_not_complete r.result (running_found rows r e))
-
-complete_if : (b : Bool) (p : SetOutcome) (r : SetRow) (n : ℕ) → is_complete p ≡ false → ((r.number == n) && is_complete r.result) ≡ false
-    → (((if b then record r { result = p } else r).number == n) && is_complete (if b then record r { result = p } else r).result) ≡ false
-complete_if b p r n e h = grind arith
+running_incomplete rows r h e = row_not_complete 1 r.number rows r h (row_running 1 rows r h e) (grind (arith, running_found rows r e))
 
 -- no set completes where the outcome is another
 pub incomplete_settled : (p : SetOutcome) (n : ℕ) (rows : List SetRow) → is_complete p ≡ false → has_complete rows n ≡ false → has_complete (map (row_settled p) rows) n ≡ false
 incomplete_settled p n [] e h = h
 incomplete_settled p n (r ∷ rows) e h =
     let parts = or_parts ((r.number == n) && is_complete r.result) (has_complete rows n) h in
-    or_from (((row_settled p r).number == n) && is_complete (row_settled p r).result) (has_complete (map (row_settled p) rows) n) (complete_if (is_running r.result) p r n e parts.0) (incomplete_settled p n rows e parts.1)
+    or_from (((row_settled p r).number == n) && is_complete (row_settled p r).result) (has_complete (map (row_settled p) rows) n) (grind (arith, parts.0))
+    (incomplete_settled p n rows e parts.1)
 
 -- rows that keep their numbers and results
 pub incomplete_map : (f : SetRow → SetRow) → ((r : SetRow) → (f r).number ≡ r.number) → ((r : SetRow) → (f r).result ≡ r.result) → (n : ℕ) (rows : List SetRow) → has_complete rows n ≡ false → has_complete (map f rows) n ≡ false

@@ -1,16 +1,15 @@
 -- The rules by which every act keeps a fact: of the state, of the course alone, and of the running agenda's log.
 use Rattle.std.proofs.Common.{ℕ, List, [], ◌∷◌, ◌++◌, Some, Bool, length, fold, map, sym, subst, ◌≡◌, ◌==◌, Option, None, true, false, arith}
 use Rattle.std.specs.Prelude.{◌&&◌, not}
-use Rattle.vss_model.proofs.ByEvent.{no_set_of}
 use Rattle.vss_model.proofs.Changes.{CourseCall, Answers, Steps, Times, Gathers, Prepares, Snapshots, Completes, Disables, Fails, Releases, called, IsDue}
 use Rattle.vss_model.proofs.Changes.{Comes, by_all_changes, after_covered, answers_are, next_is, passes_are, fails_now, goes_on_own, ends_session}
 use Rattle.vss_model.proofs.CourseCalls.{Call, call_answered, call_stepped, call_timed}
-use Rattle.vss_model.proofs.StateForm.{with_room_if, put, write, begin_in, reverted_as, IsKeptByChanges, IsKeptByWrites, step_made}
+use Rattle.vss_model.proofs.StateForm.{with_room_if, put, write, reverted_as, IsKeptByChanges, IsKeptByWrites, step_made}
 use Rattle.vss_model.proofs.Terms.{Kind, Gather, Prepare, Snapshot, Complete, Member, is_among, Course, members_from, released, IsKeptInCourse, course_answered}
 use Rattle.vss_model.proofs.Terms.{course_stepped, course_timed, course_begun, row_gathered, takers, Plan, Mark, Event, State, start, selected, Act, after}
 use Rattle.vss_model.proofs.Terms.{state, Change, CourseIs, apply, common_steps, AsyncCancelled, Write, said_of, Line, Kept, in_progress, is_begin}
 use Rattle.vss_model.proofs.Terms.{IsKeptByChanges as KeptByChanges, IsKeptByWrites as KeptByWrites, after_changes, reverts, is_disabled, volumes_of, gathered}
-use Rattle.vss_model.proofs.Terms.{prepared, snapshot_begun, completing, Context, idle_now, nat_tests, SetOutcome, Said, is_ok, Group, Agenda, left}
+use Rattle.vss_model.proofs.Terms.{prepared, snapshot_begun, completing, idle_now, nat_tests, SetOutcome, Said, is_ok, Group, Agenda, left}
 use Rattle.vss_model.proofs.Terms.{groups_left, open_place, is_freeze, waits_now, is_working, all_say, posted, failed as course_failed, settled, begun}
 
 -- ## A fact of the course alone: what the calls of the course keep, every act keeps.
@@ -73,7 +72,7 @@ module _ (P : State → Type 0) (k : IsKeptByChanges P) where
   on_after s st act at h = after_covered P s st (record {
     stays = λ lane op mark told e c. h;
     writes = λ lane op v w mark e f. on_write s v w mark st (at.puts v f w mark) h;
-    reverts = λ lane n v x mark e f. at.reverts s n v x mark e (no_set_of st v x f) h;
+    reverts = λ lane n v x mark e f. at.reverts s n v x mark e (grind (arith, common_steps, nat_tests)) h;
     deletes_set = λ lane n c mark e. k.deletes_set n st h;
     deletes_image = λ lane n v x mark e. k.deletes_image x.row.number v st h;
     ticks = λ lane n mark. k.ticks n st h;
@@ -96,9 +95,6 @@ module _ (P : State → Type 0) (k : IsKeptByChanges P) where
 -- ## the rule, of the changes themselves
 
 module _ (P : State → Type 0) where
-  by_context : KeptByChanges P → (lane : ℕ) (all : Bool) (c : Option Context) (st : State) → st.session ≡ None → P st → P (begin_in lane all c st).1
-  by_context k lane all c st e h = grind arith
-
   pub of_changes : Plan → KeptByChanges P → IsKeptByChanges P
   of_changes plan k = record {
     answers = λ w said st e h. subst P (answers_are w said st) (k.answers w said st e h);
@@ -112,7 +108,7 @@ module _ (P : State → Type 0) where
     clears = k.clears;
     deletes_set = k.deletes_set;
     deletes_image = k.deletes_image;
-    begins = by_context k;
+    begins = λ lane all c y z j. grind arith;
     names = k.names;
     disables = λ w q st g h. k.disables plan w q st g h;
     starts = λ q st g e h. k.starts plan q st g e h;

@@ -1,7 +1,6 @@
 -- What the log of a running agenda says of who spoke: while the Hold group is open, and what of a provider's step was said before.
 use Rattle.std.proofs.Common.{◌≡◌, ℕ, ◌==◌, List, [], ◌∷◌, ◌++◌, Option, None, refl, Bool, true, false, map, filter, sym, subst, ◌∙◌, arith, Some, ap}
 use Rattle.std.specs.Prelude.{◌&&◌, ◌||◌, not, if◌then◌else◌}
-use Rattle.set_agenda.proofs.Closings.{unless}
 use Rattle.vss_model.proofs.AtCut.{all_said, release_not}
 use Rattle.vss_model.proofs.Changes.{CourseCall, Answers, Steps, Times, Gathers, Prepares, Snapshots, Completes, Disables, called, IsDue, Stands}
 use Rattle.vss_model.proofs.CourseCalls.{Says, Call, call_answered, call_stepped, call_timed}
@@ -9,10 +8,10 @@ use Rattle.vss_model.proofs.HeldOfSet.{is_cut_made, said_stays, either_way, Soun
 use Rattle.vss_model.proofs.Orderly.{true_not_false}
 use Rattle.vss_model.proofs.Rules.{IsKeptInLog, Running, in_log}
 use Rattle.vss_model.proofs.Terms.{list_any-append, and_parts, eqb-true, or_right, Level, Said, is_ok, Group, Hold, Cut, Commit, Release, Member, Place, Agenda}
-use Rattle.vss_model.proofs.Terms.{Entry, Open, plain, places, group_code, level_code, same_place, is_freeze, has_said, has_frozen, members_of, waited_for}
-use Rattle.vss_model.proofs.Terms.{with_group, left_from, groups_left, open_group, open_place, is_among, waits_now, at_place, all_say, is_member, Plan, Act}
-use Rattle.vss_model.proofs.Terms.{state, is_cut_group, common_steps, SetOutcome, Kind, Gather, Prepare, Snapshot, Complete, left, is_orders, is_working}
-use Rattle.vss_model.proofs.Terms.{Course, posted, settled, begun, failed as course_failed, released, Event, State, left_now, is_provider, is_hold}
+use Rattle.vss_model.proofs.Terms.{Entry, Open, plain, places, same_place, is_freeze, has_said, has_frozen, members_of, waited_for, with_group, left_from}
+use Rattle.vss_model.proofs.Terms.{groups_left, open_group, open_place, is_among, waits_now, at_place, all_say, is_member, Plan, Act, state, is_cut_group}
+use Rattle.vss_model.proofs.Terms.{common_steps, SetOutcome, Kind, Gather, Prepare, Snapshot, Complete, left, is_orders, is_working, Course, posted, settled}
+use Rattle.vss_model.proofs.Terms.{begun, failed as course_failed, released, Event, State, left_now, is_provider, is_hold, unless}
 
 -- ## What the log of a running agenda says of who spoke: only volumes of the agenda were held, only its members froze, once the Cut step
 -- is made the Hold group is closed, and a volume is released after its Commit step.
@@ -87,9 +86,6 @@ waits_unsaid a (p ∷ ps) x e = at_group (waited_for a p) (left_from a ps) (λ f
 
 -- ## the volumes that are held
 
-hold_members : (g : Group) (k m : ℕ) (a : Agenda) (l : Option Level) (v : ℕ) → ((group_code g == group_code Hold) && (k == m)) ≡ true → is_among v (members_of a g l) ≡ true → is_among v a.volumes ≡ true
-hold_members g k m a l v e h = grind arith
-
 -- only volumes of the agenda were held
 abbrev pub HoldsOwn : Agenda → Type 0
 HoldsOwn a = (v : ℕ) → has_said a.log (plain Hold) v ≡ true → is_among v a.volumes ≡ true
@@ -105,7 +101,7 @@ holds_own = record {
       said_more a.log (map (at_place p said now) ws) (plain Hold) v (is_among v a.volumes) e (h v)
       (λ f.
       let new = and_parts (same_place p (plain Hold)) (is_among v ws) (new_said p (plain Hold) said now v ws f) in
-      hold_members p.group (level_code p.level) (level_code None) a p.level v new.0 (waits_members a (places a.kind) v (waited v new.1)));
+      grind (arith, new.0, waits_members a (places a.kind) v (waited v new.1)));
 }
 
 -- ## the writers that are frozen
@@ -120,9 +116,6 @@ among_members test w (m ∷ ms) e = by_test (test m) e (among_members test w ms)
     head false b c e f = f e
   by_test false e ih = or_right (m.writer == w) (is_member ms w) (ih e)
 
-freeze_members : (g : Group) (a : Agenda) (l : Option Level) (w : ℕ) → is_freeze g ≡ true → is_among w (members_of a g l) ≡ true → is_member a.members w ≡ true
-freeze_members g a l w e h = grind (arith, among_members)
-
 -- only members of the agenda froze
 abbrev pub FreezesOwn : Agenda → Type 0
 FreezesOwn a = (w : ℕ) → has_frozen a.log w ≡ true → is_member a.members w ≡ true
@@ -136,7 +129,7 @@ freezes_own = record {
       either_way (has_frozen a.log w) (has_frozen new w) (is_member a.members w) (sym (list_any-append (λ (x : Entry). is_freeze x.place.group && is_ok x.said && (x.who == w)) a.log new) ∙ e) (h w)
       (λ f.
       let parts = and_parts (is_freeze p.group) (is_among w ws) (new_frozen p said now w ws f) in
-      freeze_members p.group a p.level w parts.0 (waits_members a (places a.kind) w (waited w parts.1)));
+      grind (arith, among_members, parts.0, waits_members a (places a.kind) w (waited w parts.1)));
 }
 
 -- ## the Hold group is closed before the Cut step
@@ -155,9 +148,6 @@ fewer_wait log new p (x ∷ xs) e = by_head (has_said log p x) (has_said (log ++
   by_head true false f e ih = absurd (true_not_false false (f refl) refl)
   by_head false c f e ih = absurd cc
 
-pub cut_open : (os : List Open) → same_place (open_place os) (plain Cut) ≡ true → is_cut_group (open_group os) ≡ true
-cut_open os e = grind arith
-
 closed_at_cut : (a : Agenda) → is_cut_group (open_group (groups_left a)) ≡ true → waited_for a (plain Hold) ≡ []
 closed_at_cut a e = grind arith
 
@@ -172,7 +162,7 @@ holds_first_more said now ws a h e =
     by_cases true c f g e = fewer_wait a.log (map (at_place (open_place (groups_left a)) said now) ws) (plain Hold) a.volumes (h f)
     by_cases false true f g e =
         let parts = and_parts (same_place (open_place (groups_left a)) (plain Cut)) (is_among 0 ws) (new_said (open_place (groups_left a)) (plain Cut) said now 0 ws g) in
-        fewer_wait a.log (map (at_place (open_place (groups_left a)) said now) ws) (plain Hold) a.volumes (closed_at_cut a (cut_open (groups_left a) parts.0))
+        fewer_wait a.log (map (at_place (open_place (groups_left a)) said now) ws) (plain Hold) a.volumes (closed_at_cut a (grind (arith, parts.0)))
     by_cases false false f g e = absurd cc
 
 holds_first : IsKeptInLog HoldsFirst
@@ -186,9 +176,6 @@ CommitsFirst a = (v : ℕ) → has_said a.log (plain Release) v ≡ true → has
 closed_at_release : (a : Agenda) → same_place (open_place (groups_left a)) (plain Release) ≡ true → waited_for a (plain Commit) ≡ []
 closed_at_release a e = grind arith
 
-release_members : (g : Group) (k m : ℕ) (a : Agenda) (l : Option Level) (v : ℕ) → ((group_code g == group_code Release) && (k == m)) ≡ true → is_among v (members_of a g l) ≡ true → is_among v a.volumes ≡ true
-release_members g k m a l v e h = grind arith
-
 commits_before : IsKeptInLog CommitsFirst
 commits_before = record {
   begins = λ k ms vs now v e. absurd cc;
@@ -199,7 +186,7 @@ commits_before = record {
       (λ f.
       let parts = and_parts (same_place p (plain Release)) (is_among v ws) (new_said p (plain Release) said now v ws f) in
       said_stays a.log new (plain Commit) v (all_said a.log (plain Commit) a.volumes v (closed_at_release a parts.0)
-      (release_members p.group (level_code p.level) (level_code None) a p.level v parts.0 (waits_members a (places a.kind) v (waited v parts.1)))));
+      (grind (arith, parts.0, waits_members a (places a.kind) v (waited v parts.1)))));
 }
 
 -- ## in every state
@@ -252,16 +239,13 @@ module _ (g : Group) (own : is_orders g ≡ false) where
   abbrev pub MakesNone : Event → State → Type 0
   MakesNone e st = is_provider e ≡ true → same_place (open_place (left_now st)) (plain g) ≡ false
 
-  none_at : (e : Event) (st : State) (c : Course) (a : Agenda) → MakesNone e st → is_provider e ≡ true → c ≡ st.course → c.agenda ≡ Some a
-      → same_place (open_place (groups_left a)) (plain g) ≡ false
-  none_at e st c a none f h i = ap (λ (o : Option Agenda). same_place (open_place (left o)) (plain g)) (sym i ∙ ap (λ (d : Course). d.agenda) h) ∙ none f
-
   pub said_called : (s : Plan) (e : Event) (st x : State) (call : CourseCall) (who : ℕ) → MakesNone e st → IsDue st x.course call → Stands e st x call
       → SaidIn (plain g) who (called s st call x.course).agenda → SaidIn (plain g) who x.course.agenda
   unfolding course_failed released
   said_called s e st x (Answers w said) who none i j h = still_said true who x.course.agenda x.course.outcome _ _ (λ y k. tt) (call_answered w said st.clock x.course) h
   said_called s e st x (Steps ok) who none i j h =
-      still_said false who x.course.agenda x.course.outcome _ _ (λ y k. none_at e st x.course y none j i.1 k)
+      still_said false who x.course.agenda x.course.outcome _ _
+      (λ y k. ap (λ (o : Option Agenda). same_place (open_place (left o)) (plain g)) (sym k ∙ ap (λ (d : Course). d.agenda) i.1) ∙ none j)
       (call_stepped ok st.clock x.course (subst (λ c. is_working (left c.agenda) ≡ true) (sym i.1) i.0)) h
   said_called s e st x (Times now) who none i j h = still_said true who x.course.agenda x.course.outcome _ _ (λ y k. tt) (call_timed now x.course) h
   said_called s e st x Gathers who none i j h = absurd (begun_unsaid who Gather _ [] st.clock _ h)

@@ -16,13 +16,10 @@ use Rattle.vss_model.proofs.Terms.{left_now, is_held, kept_image, is_kept_set, E
 use Rattle.vss_model.proofs.Terms.{reply_of_mark, cleared as cleared_volumes, set_loses_image, read_reply, block_reply, image_reply, query_reply}
 use Rattle.vss_model.proofs.Terms.{properties_reply, count_images, is_in_set, revert_refusal, is_disabled, known_metas, selected, new_number, new_set}
 use Rattle.vss_model.proofs.Terms.{with_volume, add_refusal, has_no_volume, volumes_of, await_reply, session_reply, row_cut, is_flush, is_failed_step, Act}
-use Rattle.vss_model.proofs.Terms.{order_of_writer, idle_now, answer_reply, step_reply, LetsGo}
-use Rattle.write_history.specs.History.{cut as history_cut}
-use Rattle.requestor.specs.declared.session_call.SessionCall.TheVariants as call
-use Rattle.scenario.specs.declared.line.Line.{Line as Does}
+use Rattle.vss_model.proofs.Terms.{order_of_writer, idle_now, answer_reply, step_reply, LetsGo, Does, AnswerEvent, history_cut}
 use Rattle.scenario.specs.declared.line.Line.TheVariants.{Writes, Reverts}
 use Rattle.scenario.specs.declared.op.Op.TheVariants.{Gather, Prepare, Snapshot, Complete}
-use Rattle.vss_model.specs.declared.event.Event.TheVariants.{Answer as AnswerEvent}
+use Rattle.requestor.specs.declared.session_call.SessionCall.TheVariants as call
 
 -- a reply, and the state after the act
 abbrev pub Replied : Type 0

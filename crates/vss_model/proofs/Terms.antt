@@ -3,7 +3,7 @@ pub use Rattle.block_data.specs.BlockBytes.{payload_bytes}
 pub use Rattle.block_data.specs.declared.payload.Payload.TheVariants.{Fill, Stamp}
 pub use Rattle.component_doc.specs.Over.{is_ascending, is_selectable_of, meta_at, names_selectable}
 pub use Rattle.component_doc.specs.Selection.{IsNamedAlready, IsNotFound, IsNotSelectable, Names, Naming, Pair, found_in, found_of, has_pair, is_taker, naming}
-pub use Rattle.component_doc.specs.Selection.{naming_found, naming_if, naming_of, takers, with_pair}
+pub use Rattle.component_doc.specs.Selection.{naming_found, naming_if, naming_of, takers, with_pair, known_from as known_of}
 pub use Rattle.requestor.specs.Check.{check, check_begin, check_other, goes_beside_agenda, is_stage, is_start, owner_only, verdict_of}
 pub use Rattle.requestor.specs.Session.{Session, agenda_ended, context_of, has_writers, makes_set, opened, set_failed, stage_after, started}
 pub use Rattle.requestor.specs.declared.mode.Mode.{Mode}
@@ -27,13 +27,13 @@ pub use Rattle.set_agenda.specs.Advance.{advance, unasked}
 pub use Rattle.set_agenda.specs.Agenda.{Agenda, Entry, Open, all_say, at_level, at_place, group_code, groups_left, has_frozen, has_said, has_thawed, is_among}
 pub use Rattle.set_agenda.specs.Agenda.{is_asking, is_at, is_done, is_freeze, is_orders, is_snapshot, is_thaw, is_working, left, left_from, level_code}
 pub use Rattle.set_agenda.specs.Agenda.{members_of, next_member, next_volume, open_group, open_order, open_place, order_now, order_of, places, plain}
-pub use Rattle.set_agenda.specs.Agenda.{same_place, waited_for, waits_now, with_group, writers_at}
+pub use Rattle.set_agenda.specs.Agenda.{same_place, waited_for, waits_now, with_group, writers_at, is_held as holds, is_frozen as freezes, is_asked}
 pub use Rattle.set_agenda.specs.Course.{Course, answered, change_at, completing, decided, fails_set, freeze_limit, gathered, has_row_failed, is_decisive}
 pub use Rattle.set_agenda.specs.Course.{is_member, limit_of, limits_now, lost, lost_decided, lost_to, member_if, members_from, outcome_after, prepared}
 pub use Rattle.set_agenda.specs.Course.{rows_where, settled_if, snapshot_begun, stepped, timed, treated, treated_as}
 unfoldable pub use Rattle.set_agenda.specs.Course.{begun, failed, posted, released, settled, told, worked}
 pub use Rattle.set_agenda.specs.Limits.{answer_runs, first_hold, first_time, freeze_opened_at, freeze_runs, hold_running, hold_runs, is_hold, last_time}
-pub use Rattle.set_agenda.specs.Limits.{opened_at, running_at, running_limits, runs_if, spent_of, ticks_to_spend}
+pub use Rattle.set_agenda.specs.Limits.{opened_at, running_at, running_limits, runs_if, spent_of, ticks_to_spend, Running as RunningLimit}
 pub use Rattle.set_agenda.specs.declared.group.Group.{Group}
 pub use Rattle.set_agenda.specs.declared.group.Group.TheVariants.{Commit, Cut, Flush, Hold, Orders, PostCommit, PreCommit, Release}
 pub use Rattle.set_agenda.specs.declared.kind.Kind.{Kind}
@@ -80,7 +80,7 @@ pub use Rattle.vss_model.specs.Trail.{Run, act_of, acts, acts_from, acts_if, aft
 pub use Rattle.vss_model.specs.Trail.{faults, is_complete, is_fault, is_lane, is_legal, is_legal_from, is_legal_move, is_over, is_used_up, line_event, may_move}
 pub use Rattle.vss_model.specs.Trail.{moved, next_line, none_can_act, run, run_from, script_event}
 pub use Rattle.vss_model.specs.declared.event.Event.{Event}
-pub use Rattle.vss_model.specs.declared.event.Event.TheVariants.{Idle, Line, Provider}
+pub use Rattle.vss_model.specs.declared.event.Event.TheVariants.{Idle, Line, Provider, Answer as AnswerEvent}
 pub use Rattle.vss_names.specs.declared.context.Context.{Context}
 pub use Rattle.vss_names.specs.declared.context.Context.TheVariants.{AppRollback, Backup, NasRollback}
 pub use Rattle.vss_names.specs.declared.level.Level.{Level}
@@ -88,16 +88,16 @@ pub use Rattle.vss_names.specs.declared.level.Level.TheVariants.{BackEnd, FrontE
 pub use Rattle.vss_names.specs.declared.order.Order.{Order}
 pub use Rattle.vss_names.specs.declared.order.Order.TheVariants.{BackupComplete, Freeze, Identify, PostSnapshot, PrepareBackup, PrepareSnapshot, Thaw}
 pub use Rattle.vss_names.specs.declared.set_outcome.SetOutcome.{SetOutcome}
-pub use Rattle.vss_names.specs.declared.set_outcome.SetOutcome.TheVariants.{Failed, Running}
+pub use Rattle.vss_names.specs.declared.set_outcome.SetOutcome.TheVariants.{Failed, Running, Complete as CompleteSet}
 pub use Rattle.vss_names.specs.declared.vss_result.VssResult.{VssResult}
 pub use Rattle.vss_names.specs.declared.vss_result.VssResult.TheVariants.{AsyncCancelled, AsyncPending, BadState, InsufficientStorage}
 pub use Rattle.vss_names.specs.declared.vss_result.VssResult.TheVariants.{MaximumNumberOfSnapshotsReached, MaximumNumberOfVolumesReached, ObjectAlreadyExists}
 pub use Rattle.vss_names.specs.declared.vss_result.VssResult.TheVariants.{ObjectNotFound, UnexpectedProviderError, UnsupportedContext}
 pub use Rattle.write_history.specs.History.{AreInTime, AreLater, History, Image, Write, after_set, blocks_named, content, dropped, fresh, point_in, reverted}
-pub use Rattle.write_history.specs.History.{reverted_in_part, up_to_set, without_set, written}
+pub use Rattle.write_history.specs.History.{reverted_in_part, up_to_set, without_set, written, cut as history_cut}
 pub use Rattle.write_history.specs.Slots.{Copy, Placed, copies, copies_from, copies_of, copy_of, gone_up_to, named, used_by}
 pub use Rattle.write_history.specs.declared.actor.Actor.{Actor}
-pub use Rattle.write_history.specs.declared.actor.Actor.TheVariants.{Advance, Lane, Writer}
+pub use Rattle.write_history.specs.declared.actor.Actor.TheVariants.{Advance, Lane, Writer, Idle as IdleActor}
 pub use Rattle.write_history.specs.declared.mark.Mark.{Mark}
 pub use Rattle.write_history.specs.declared.mark.Mark.TheVariants.{Clean, Fault, FaultAfter}
 pub use Rattle.write_history.specs.declared.move_item.Move.{Move}
@@ -106,5 +106,7 @@ pub use Rattle.writer_calls.specs.declared.answer.Answer.{Answer}
 pub use Rattle.writer_meta.specs.Metadata.{Meta}
 pub use Rattle.writer_state.specs.WriterState.{row_aborted, row_after, row_ended, row_gathered, is_ok}
 pub use Rattle.writer_state.specs.declared.said.Said.{Said}
-pub use Rattle.writer_state.specs.declared.said.Said.TheVariants.{Ok}
+pub use Rattle.writer_state.specs.declared.said.Said.TheVariants.{Ok, Lost}
 pub use Rattle.writer_state.specs.declared.writer_row.WriterRow.{WriterRow}
+pub use Rattle.scenario.specs.declared.line.Line.{Line as Does}
+pub use Rattle.set_agenda.proofs.Closings.{unless}

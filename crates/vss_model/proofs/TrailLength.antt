@@ -6,14 +6,13 @@ use Rattle.vss_model.proofs.Terms.{common_steps, nat_tests, sum_by-cons, and_par
 use Rattle.vss_model.proofs.Terms.{Write, said_of, Said, Group, is_among, is_working, Course, answered as course_answered, stepped as course_stepped}
 use Rattle.vss_model.proofs.Terms.{timed as course_timed, has_row_failed, Session, Op, Revert, DeleteSet, DeleteImage, Tick, Begin, Disable, Component, Start}
 use Rattle.vss_model.proofs.Terms.{Add, Abort, End, IsPlan, begins_agenda, agenda_lines, Plan, LaneLine, LanePlan, lines_in, lines_of, Event, Line, Provider}
-use Rattle.vss_model.proofs.Terms.{Idle as IdleEvent, State, SetRow, Kept, in_progress, left_now, Ending, ending, runs, takers, Order, is_disabled, selected}
-use Rattle.vss_model.proofs.Terms.{volumes_of, Act, after, state, enabled, idle_now, order_of_writer, most_moves, Run, begin, is_lane, cursor}
-use Rattle.vss_model.proofs.Terms.{next_line, line_event, script_event, event_of, act_of, after_event, moved, run_from, run, acts, event_enabled, is_legal_move}
+use Rattle.vss_model.proofs.Terms.{Idle as IdleEvent, State, SetRow, Kept, in_progress, left_now, runs, takers, Order, is_disabled, selected}
+use Rattle.vss_model.proofs.Terms.{volumes_of, Act, after, state, enabled, idle_now, order_of_writer, most_moves, Run, begin, is_lane, cursor, next_line}
+use Rattle.vss_model.proofs.Terms.{line_event, script_event, event_of, act_of, after_event, moved, run_from, run, acts, event_enabled, is_legal_move}
 use Rattle.vss_model.proofs.Terms.{is_legal_from, is_legal, waiting, turns_of_agenda, turns_of_line, turns_of_lines, turns_of_lanes, turns_left}
-use Rattle.write_history.specs.declared.actor.Actor.TheVariants.{Idle}
-use Rattle.set_agenda.specs.declared.kind.Kind.TheVariants as kind
+use Rattle.vss_model.proofs.Terms.{IdleActor as Idle}
 use Rattle.scenario.specs.declared.op.Op.TheVariants.{Prepare, Snapshot}
-use Rattle.vss_model.proofs.StateForm.{concluded, followed, failed_in, failed, Replied, write, reverted_as, closed, end_session, answered, step_made}
+use Rattle.vss_model.proofs.StateForm.{followed, failed_in, failed, Replied, write, reverted_as, closed, end_session, answered, step_made}
 use Rattle.vss_model.proofs.StateForm.{stepped_as, stepped, ticked, later}
 use Rattle.vss_model.proofs.Appending.{state-append, run-append, state-run, is_legal-append}
 use Rattle.vss_model.proofs.ByEvent.{Covers, covered}
@@ -21,21 +20,19 @@ use Rattle.vss_model.proofs.Changes.{after_enabled}
 use Rattle.vss_model.proofs.Waiting.{idle_spends}
 use Rattle.vss_model.proofs.GoesOn.{cursor_more, cursor_same}
 use Rattle.vss_model.proofs.Turns.{waits_in, short_filter, less_stepped, less_answered, not_more_timed, less_timed, few_begun, none_released, none_failed}
-use Rattle.vss_model.proofs.Turns.{FewVolumes, short_members, few_in}
+use Rattle.vss_model.proofs.Turns.{short_members, few_in}
 use Rattle.vss_model.proofs.Rows.{apart_back}
 use Rattle.vss_model.proofs.Headline.{zero_more}
+use Rattle.set_agenda.specs.declared.kind.Kind.TheVariants as kind
 
 -- ## one act
 
 abbrev waits_at : State → ℕ
 waits_at st = waiting (left_now st)
 
-same_concluded : (e : Ending) (st : State) → waits_at (concluded e st) ≡ waits_at st
-same_concluded e st = grind arith
-
 same_followed : (ran : Bool) (c : Course) (st : State) → waits_at (followed ran c st) ≡ waits_in c
 unfolding followed
-same_followed ran c st = same_concluded (ending st.course.outcome c.outcome ran c.agenda) (record st { course = c })
+same_followed ran c st = grind arith
 
 less_answers : (w : ℕ) (said : Said) (st : State) → waits_in (course_answered w said st.clock st.course) < waits_at st → waits_at (answered w said st) < waits_at st
 unfolding answered
@@ -54,7 +51,7 @@ unfolding ticked
 same_ticked n st = same_followed (runs st) (course_timed (st.clock + n) st.course) (later n st)
 
 not_more_failed : (o : Option SetRow) (why : VssResult) (st : State) → waits_at (failed_in o why st) ≤ waits_at st
-not_more_failed o why st = grind (arith, same_concluded, none_failed)
+not_more_failed o why st = grind (arith, none_failed)
 
 none_closed : (q : Session) (st : State) → waits_at (closed q st) ≡ 0
 unfolding closed
@@ -66,9 +63,6 @@ few_write s v w mark st = grind (arith, common_steps, not_more_failed)
 
 same_revert : (s : Plan) (v : ℕ) (kept : Kept) (mark : Mark) (st : State) → waits_at (reverted_as s v kept mark st).1 ≡ waits_at st
 same_revert s v kept mark st = grind arith
-
-few_of_set : (o : Option SetRow) → FewVolumes o → length (volumes_of o) ≤ 64
-few_of_set o h = grind arith
 
 -- the turns that an event takes of those of its lane
 abbrev turns_of_event : Event → ℕ
@@ -108,7 +102,7 @@ turns_covered s acts p =
       prepares = λ lane q mark g f. begun_takes _ st
           (few_begun kind.Prepare _ [] st.clock _ (let e = short (λ w. is_among w (takers (length s.writers) (selected s q st))) in omega (arith, e, rows)) (omega arith));
       snapshots = λ lane q mark g f. begun_takes _ st
-          (few_begun kind.Snapshot st.course.members (volumes_of (in_progress st)) st.clock st.course members (few_of_set (in_progress st) few.volumes));
+          (few_begun kind.Snapshot st.course.members (volumes_of (in_progress st)) st.clock st.course members (grind (arith, few.volumes)));
       completes = λ lane q mark g. begun_takes _ st
           (few_begun kind.Complete _ [] st.clock _ (let e = short_filter (λ m. not (has_row_failed st.course.rows m.writer)) st.course.members in omega (arith, e, members)) (omega arith));
       aborts = λ lane q mark e. line_takes st (failed AsyncCancelled st) Abort (not_more_failed (in_progress st) AsyncCancelled st);
@@ -126,10 +120,8 @@ after_turns s acts act p e =
 -- ## the lanes
 
 drop_turns : (ls : List LaneLine) (k : ℕ) (l : LaneLine) → slice_get ls k ≡ Some l → turns_of_lines (drop k ls) ≡ turns_of_line l + turns_of_lines (drop (suc k) ls)
-drop_turns [] zero l e = absurd cc
-drop_turns [] (suc k) l e = absurd cc
-drop_turns (x ∷ ls) zero l e = let f : x ≡ l = cc in ap (λ y. turns_of_line y + turns_of_lines ls) f
 drop_turns (x ∷ ls) (suc k) l e = drop_turns ls k l e
+drop_turns ls k l e = grind (arith, common_steps, nat_tests)
 
 lanes_same : (moves : List Move) (m : Move) (j : ℕ) (lanes : List LanePlan) → ((x : ℕ) → j ≤ x → is_lane x m.actor ≡ false) → turns_of_lanes (moves ++ m ∷ []) j lanes ≡ turns_of_lanes moves j lanes
 lanes_same moves m j [] h = refl
@@ -139,12 +131,6 @@ lanes_same moves m j (p ∷ ps) h =
 
 not_lane : (x i : ℕ) (actor : Actor) → actor ≡ Lane i → i < x → is_lane x actor ≡ false
 not_lane x i actor e h = grind (arith, common_steps, nat_tests)
-
-is_own_lane : (i : ℕ) (actor : Actor) → actor ≡ Lane i → is_lane i actor ≡ true
-is_own_lane i actor e = ap (is_lane i) e ∙ eq-eqb i i refl
-
-earlier_lane : (x i : ℕ) (actor : Actor) → actor ≡ Lane i → x < i → is_lane x actor ≡ false
-earlier_lane x i actor e h = ap (is_lane x) e ∙ apart_back x i h
 
 lanes_less : (moves : List Move) (m : Move) (j : ℕ) (lanes : List LanePlan) (k : ℕ) (l : LaneLine) → m.actor ≡ Lane (j + k) → slice_get (lines_in (slice_get lanes k)) (cursor moves (j + k)) ≡ Some l
     → turns_of_lanes moves j lanes ≡ turns_of_line l + turns_of_lanes (moves ++ m ∷ []) j lanes
@@ -160,7 +146,7 @@ lanes_less moves m j (p ∷ ps) zero l e f =
     let own : m.actor ≡ Lane j = e ∙ ap Lane (add_none j) in
     let line : slice_get p.lines (cursor moves j) ≡ Some l = subst (λ n. slice_get p.lines (cursor moves n) ≡ Some l) (add_none j) f in
     let a = drop_turns p.lines (cursor moves j) l line in
-    let b = ap (λ n. turns_of_lines (drop n p.lines)) (cursor_more moves m j (is_own_lane j m.actor own)) in
+    let b = ap (λ n. turns_of_lines (drop n p.lines)) (cursor_more moves m j (ap (is_lane j) own ∙ eq-eqb j j refl)) in
     let d = lanes_same moves m (j + 1) ps (λ x g. not_lane x j m.actor own (omega (arith, g))) in
     omega (arith, a, b, d) where
       add_none : (n : ℕ) → n + 0 ≡ n
@@ -169,7 +155,7 @@ lanes_less moves m j (p ∷ ps) (suc k) l e f =
     let moved_on : m.actor ≡ Lane (j + 1 + k) = e ∙ ap Lane (shift j k) in
     let line : slice_get (lines_in (slice_get ps k)) (cursor moves (j + 1 + k)) ≡ Some l = subst (λ n. slice_get (lines_in (slice_get ps k)) (cursor moves n) ≡ Some l) (shift j k) f in
     let a = lanes_less moves m (j + 1) ps k l moved_on line in
-    let b = ap (λ n. turns_of_lines (drop n p.lines)) (cursor_same moves m j (earlier_lane j (j + 1 + k) m.actor moved_on (omega arith))) in
+    let b = ap (λ n. turns_of_lines (drop n p.lines)) (cursor_same moves m j (ap (is_lane j) moved_on ∙ apart_back j (j + 1 + k) (omega arith))) in
     omega (arith, a, b) where
       shift : (j k : ℕ) → j + suc k ≡ j + 1 + k
       shift j k = omega arith

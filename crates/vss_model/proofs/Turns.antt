@@ -1,21 +1,20 @@
 -- How few turns there can be: no more than 64 writers or volumes, and each answer, step and idle stretch leaves fewer to be waited for.
-use Rattle.std.proofs.Common.{◌≡◌, ℕ, suc, ◌+◌, ◌≤◌, List, [], ◌∷◌, ◌++◌, Option, Some, None, refl, Bool, true, false, ap, sym, subst, map, length, arith, ◌*◌}
+use Rattle.std.proofs.Common.{◌≡◌, ℕ, suc, ◌+◌, ◌≤◌, List, [], ◌∷◌, ◌++◌, Option, Some, None, refl, Bool, true, false, ap, sym, subst, map, length, arith}
 use Rattle.std.proofs.Common.{◌==◌, ◌<◌, ◌∙◌, filter}
 use Rattle.std.specs.Prelude.{if◌then◌else◌, find, option_map, is_some, ◌||◌, not}
-use Rattle.set_agenda.specs.Limits.{Running}
 use Rattle.set_agenda.proofs.GroupsLeft.{groups_left-all_say}
 use Rattle.vss_model.proofs.Changes.{Comes, by_all_changes}
 use Rattle.vss_model.proofs.Rules.{IsKeptByCalls, of_course}
 use Rattle.vss_model.proofs.Orderly.{find-map, find-settled_over}
 use Rattle.vss_model.proofs.StateForm.{later}
-use Rattle.vss_model.proofs.Terms.{length-map, common_steps, Context, Order, SetOutcome, VssResult, Said, WriterRow, row_aborted, row_gathered, row_ended, Mark}
-use Rattle.vss_model.proofs.Terms.{Course, posted, failed as course_failed, told, worked, released, rows_where, members_from, is_member, IsPlan, Plan, State}
-use Rattle.vss_model.proofs.Terms.{SetRow, start, in_progress, is_running, row_changed, row_settled, new_set, with_volume, add_refusal, row_cut, Act, state}
-use Rattle.vss_model.proofs.Terms.{IsKeptInCourse, Event, Change, apply, nat_tests, eqb-true, System, BackEnd, FrontEnd, Ok, is_ok, Kind, Member, Place, Agenda}
-use Rattle.vss_model.proofs.Terms.{Open, all_say, with_group, writers_at, is_at, members_of, left_from, places, groups_left, left, order_now, is_among}
-use Rattle.vss_model.proofs.Terms.{open_order, is_asking, is_working, next_member, waits_now, is_done, advance, unasked, spent_of, settled, begun, decided}
-use Rattle.vss_model.proofs.Terms.{answered as course_answered, stepped as course_stepped, limits_now, lost_to, lost_decided, treated, timed as course_timed}
-use Rattle.vss_model.proofs.Terms.{waiting}
+use Rattle.vss_model.proofs.Terms.{length-map, common_steps, Context, Order, VssResult, Said, WriterRow, row_aborted, row_gathered, row_ended, Mark, Course}
+use Rattle.vss_model.proofs.Terms.{posted, failed as course_failed, told, worked, released, rows_where, members_from, is_member, IsPlan, Plan, State, SetRow}
+use Rattle.vss_model.proofs.Terms.{start, in_progress, is_running, row_changed, new_set, with_volume, add_refusal, row_cut, Act, state, Event, Change, apply}
+use Rattle.vss_model.proofs.Terms.{nat_tests, eqb-true, System, BackEnd, FrontEnd, Ok, is_ok, Kind, Member, Place, Agenda, Open, all_say, with_group}
+use Rattle.vss_model.proofs.Terms.{writers_at, is_at, members_of, left_from, groups_left, left, order_now, is_among, open_order, is_asking, is_working}
+use Rattle.vss_model.proofs.Terms.{next_member, waits_now, advance, unasked, spent_of, settled, begun, answered as course_answered}
+use Rattle.vss_model.proofs.Terms.{stepped as course_stepped, limits_now, lost_to, treated, timed as course_timed, waiting}
+use Rattle.vss_model.proofs.Terms.{RunningLimit as Running}
 use Rattle.vss_model.proofs.Waiting.{WaitsWell, waits-left_from}
 
 -- ## Nowhere are there more than 64 writers, or more than 64 volumes in the set in progress.
@@ -50,9 +49,6 @@ few_worked : (now : ℕ) (c : Course) → FewWriters c → FewWriters (worked no
 unfolding worked
 few_worked now c h = record { rows = h.rows; members = h.members }
 
-few_kept : IsKeptInCourse FewWriters
-few_kept = record { posts = few_posted; says = few_told; works = few_worked; fails = few_failed; closes = λ k c h. record { rows = h.rows; members = h.members } }
-
 few_released : (c : Course) → FewWriters c → FewWriters (released c)
 unfolding released
 few_released c h = record { rows = subst (λ k. k ≤ 64) (sym (length-map c.rows row_ended)) h.rows; members = omega arith }
@@ -65,15 +61,6 @@ FewVolumes (Some r) = length r.volumes ≤ 64
 
 abbrev running_in : List SetRow → Option SetRow
 running_in rows = find (λ r. is_running r.result) rows
-
-few_mapped : (g : SetRow → SetRow) → ((r : SetRow) → (g r).volumes ≡ r.volumes) → (o : Option SetRow) → FewVolumes o → FewVolumes (option_map g o)
-few_mapped g same o h = grind arith
-
-few_same : (o p : Option SetRow) → p ≡ o → FewVolumes o → FewVolumes p
-few_same o p e h = subst FewVolumes (sym e) h
-
-few_row_settled : (o : SetOutcome) (rows : List SetRow) → FewVolumes (running_in rows) → FewVolumes (running_in (map (row_settled o) rows))
-few_row_settled o rows h = grind (arith, common_steps, few_same, find-map, few_mapped, find-settled_over)
 
 -- a change of the row of one set that keeps its result
 same_changed : (n : ℕ) (f : SetRow → SetRow) → ((r : SetRow) → (f r).result ≡ r.result) → (r : SetRow) → is_running (row_changed n f r).result ≡ is_running r.result
@@ -90,7 +77,7 @@ few_started (r ∷ rows) n c h = own (is_running r.result) (few_started rows n c
   own false later g = later g
 
 few_added : (v : ℕ) (r : SetRow) (st : State) → in_progress st ≡ Some r → add_refusal v r st ≡ None → FewVolumes (running_in (map (row_changed r.number (with_volume v)) st.sets))
-few_added v r st e f = grind (arith, common_steps, few_same, find-map, same_changed)
+few_added v r st e f = grind (arith, common_steps, find-map, same_changed)
 
 -- ## both, in every state
 
@@ -100,7 +87,14 @@ pub record IsFew (st : State) : Type 0 where
 
 few_calls : IsKeptByCalls FewWriters
 few_calls = record {
-  within = few_kept;
+  within = record {
+    posts = few_posted;
+    says = few_told;
+    works = few_worked;
+    fails = few_failed;
+    closes = λ k c h.
+        record { rows = h.rows; members = h.members };
+  };
   begins = λ k ms vs now c h. record { rows = h.rows; members = h.members };
   gathers = λ c h. record { rows = subst (λ k. k ≤ 64) (sym (length-map c.rows row_gathered)) h.rows; members = h.members };
   takes = λ test c h. let e = short_members test 0 c.rows in let g = h.rows in record { rows = h.rows; members = omega arith };
@@ -109,13 +103,14 @@ few_calls = record {
 }
 
 few_change : (s : Plan) (e : Event) (m : Mark) (st : State) (c : Change) (x : State) → Comes s e m st x c → FewVolumes (in_progress x) → FewVolumes (in_progress (apply x c))
-few_change s e m st c x i h = grind (arith, common_steps, few_started, few_added, few_same, find-map, few_mapped, same_changed, volumes_cut, few_row_settled)
-
-few_start : (s : Plan) → IsPlan s → FewWriters (start s).course
-few_start s h = grind (arith, length-map)
+few_change s e m st c x i h = grind (arith, common_steps, few_started, few_added, find-map, same_changed, volumes_cut, find-settled_over, nat_tests)
 
 pub few_in : (s : Plan) (acts : List Act) → IsPlan s → IsFew (state s acts)
-few_in s acts h = record { writers = of_course FewWriters few_calls s acts (few_start s h); volumes = by_all_changes (λ x. FewVolumes (in_progress x)) s (few_change s) (start s) acts tt }
+few_in s acts h = record {
+  writers = of_course FewWriters few_calls s acts (grind (arith, length-map));
+  volumes = by_all_changes
+      (λ x. FewVolumes (in_progress x)) s (few_change s) (start s) acts tt;
+}
 
 -- ## Each answer, each step of the provider and each idle stretch leaves fewer to be waited for, and no line but those that
 -- begin an agenda leaves more.
@@ -164,9 +159,6 @@ waiting-advance whos f os h = grind (arith, common_steps, waiting-with_group, fi
 abbrev pub waits_in : Course → ℕ
 waits_in c = waiting (left c.agenda)
 
-zero-le : (n : ℕ) → 0 ≤ n
-zero-le n = omega arith
-
 same_posted : (before c : Course) → waits_in (posted before c) ≡ waits_in c
 unfolding posted
 same_posted before c = refl
@@ -192,55 +184,34 @@ less_worked : (now : ℕ) (c : Course) → IsHeard (next_member (left c.agenda) 
 unfolding worked
 less_worked now c h = waiting_said Ok now (next_member (left c.agenda) ∷ []) c.agenda h
 
-some_waiting : (whos : List ℕ) (os : List Open) → IsHeard whos os → 0 < waiting os
-some_waiting whos os h = let e = waiting-advance whos true os h in omega arith
-
 -- ## the provider's step
 
 waits_well : (o : Option Agenda) → WaitsWell (left o)
 waits_well o = grind (arith, waits-left_from)
 
 pub less_stepped : (ok : Bool) (now : ℕ) (c : Course) → is_working (left c.agenda) ≡ true → waits_in (course_stepped ok now c) < waits_in c
-less_stepped ok now c e = grind (arith, common_steps, same_posted, waits_well, less_settled, less_worked, none_failed, some_waiting)
+less_stepped ok now c e = grind (arith, common_steps, same_posted, waits_well, less_settled, less_worked, none_failed)
 
 -- ## an answer
 
-less_decided : (fails : Bool) (said : Said) (c d : Course) → waits_in d < waits_in c → waits_in (decided fails said d) < waits_in c
-less_decided fails said c d h = grind (arith, none_failed, less_settled)
-
 pub less_answered : (w : ℕ) (said : Said) (now : ℕ) (c : Course) → is_some (open_order (left c.agenda) w) ≡ true → waits_in (course_answered w said now c) < waits_in c
-less_answered w said now c e = grind (arith, common_steps, same_posted, less_decided, less_told)
+less_answered w said now c e = grind (arith, common_steps, same_posted, less_told, none_failed, less_settled)
 
 -- ## time
-
-heard_all : (os : List Open) → is_done os ≡ false → WaitsWell os → IsHeard (waits_now os) os
-heard_all os e h = grind arith
-
-asking_not_done : (os : List Open) → is_asking os ≡ true → is_done os ≡ false
-asking_not_done os e = grind arith
-
-has_order : (os : List Open) → is_asking os ≡ true → is_some (order_now os) ≡ true
-has_order os e = grind arith
 
 -- what is lost is heard of; and where nobody is asked nothing is lost
 less_lost_to : (o : Option Order) (now : ℕ) (c : Course) → is_some o ≡ true → IsHeard (waits_now (left c.agenda)) (left c.agenda) → waits_in (lost_to o now c) < waits_in c
 less_lost_to o now c e h = grind (arith, less_told)
 
 not_more_lost : (o : Option Order) (now : ℕ) (c : Course) → order_now (left c.agenda) ≡ o → waits_in (lost_to o now c) ≤ waits_in c
-not_more_lost o now c e = grind (arith, common_steps, less_told, heard_all, waits_well)
-
-less_lost_decided : (b : Bool) (c d : Course) → waits_in d < waits_in c → waits_in (lost_decided b d) < waits_in c
-less_lost_decided b c d h = grind (arith, none_failed, less_settled)
-
-not_more_decided : (b : Bool) (c d : Course) → waits_in d ≤ waits_in c → waits_in (lost_decided b d) ≤ waits_in c
-not_more_decided b c d h = grind (arith, none_failed, less_settled)
+not_more_lost o now c e = grind (arith, common_steps, less_told, waits_well)
 
 not_more_treated : (l : Option Running) (now : ℕ) (c : Course) → waits_in (treated l now c) ≤ waits_in c
-not_more_treated l now c = grind (arith, common_steps, none_failed, zero-le, not_more_decided, not_more_lost)
+not_more_treated l now c = grind (arith, common_steps, none_failed, not_more_lost, less_settled)
 
 less_treated : (l : Option Running) (now : ℕ) (c : Course) → is_some l ≡ true → is_asking (left c.agenda) ≡ true → waits_in (treated l now c) < waits_in c
 less_treated l now c e f =
-    grind (arith, common_steps, heard_all, asking_not_done, waits_well, none_failed, some_waiting, less_lost_decided, less_lost_to, has_order)
+    grind (arith, common_steps, waits_well, none_failed, less_lost_to, nat_tests, less_settled)
 
 pub not_more_timed : (now : ℕ) (c : Course) → waits_in (course_timed now c) ≤ waits_in c
 not_more_timed now c = grind (arith, same_posted, not_more_treated)
@@ -272,15 +243,9 @@ levels_of ms =
     let e = three_levels ms in
     omega arith
 
-abbrev most_of : ℕ → ℕ → ℕ
-most_of writers volumes = 4 * writers + 4 * volumes + 3
-
-few_in_turn : (k : Kind) (a : Agenda) → a.kind ≡ k → members_at a (places k) ≤ most_of (length a.members) (length a.volumes)
-few_in_turn k a e = grind (arith, common_steps, length-map, short_filter, levels_of)
-
 pub few_begun : (k : Kind) (ms : List Member) (vs : List ℕ) (now : ℕ) (c : Course) → length ms ≤ 64 → length vs ≤ 64 → waits_in (begun k ms vs now c) ≤ 521
 unfolding begun
-few_begun k ms vs now c e f = grind (arith, common_steps, same_posted, less_settled, waiting-left_from, few_in_turn)
+few_begun k ms vs now c e f = grind (arith, common_steps, same_posted, less_settled, waiting-left_from, length-map, short_filter, levels_of)
 
 pub none_released : (c : Course) → waits_in (released c) ≡ 0
 unfolding released

@@ -1,15 +1,14 @@
 -- What a change of the volumes does to the history at each place, and whose writes change by it: none of a volume that is held.
 use Rattle.std.proofs.Common.{◌≡◌, ℕ, ◌==◌, ◌≤◌, zero, suc, List, [], ◌∷◌, Some, refl, Bool, true, false, map, filter, length, ap, arith, ◌∙◌}
 use Rattle.std.specs.Prelude.{is_some, not, if◌then◌else◌, nat_lt, slice_get}
-use Rattle.write_history.specs.History.{cut as history_cut}
 use Rattle.vss_model.proofs.Changes.{Comes, by_changes}
 use Rattle.vss_model.proofs.HeldOfSet.{held_means}
 use Rattle.vss_model.proofs.Rules.{Running}
 use Rattle.vss_model.proofs.Spoken.{HoldsOwn, held_own}
-use Rattle.vss_model.proofs.Terms.{nat_tests, common_steps, Write, Image, History, fresh, point_in, dropped, written, reverted, reverted_in_part, after_set}
-use Rattle.vss_model.proofs.Terms.{without_set, Placed, gone_up_to, change_at, history_in, has_image, Mark, is_among, Plan, Event, State, in_progress}
-use Rattle.vss_model.proofs.Terms.{history_of, is_held, is_in_set, IsHeldForSet, RunsSnapshot, Act, after, state, Change, Writes, Makes, Reverts, RevertsPart}
-use Rattle.vss_model.proofs.Terms.{DropsSet, Drops, Evicts, apply}
+use Rattle.vss_model.proofs.Terms.{nat_tests, common_steps, Write, Image, History, point_in, dropped, written, reverted, reverted_in_part, after_set}
+use Rattle.vss_model.proofs.Terms.{without_set, Placed, gone_up_to, change_at, history_in, has_image, Mark, is_among, Plan, Event, State, history_of, is_held}
+use Rattle.vss_model.proofs.Terms.{is_in_set, IsHeldForSet, RunsSnapshot, Act, after, state, Change, Writes, Makes, Reverts, RevertsPart, DropsSet, Drops}
+use Rattle.vss_model.proofs.Terms.{Evicts, apply, history_cut}
 
 -- ## What a change of the volumes does to the history at each place, and that most changes leave fewer images.
 
@@ -23,10 +22,8 @@ Each R hs ks = (v : ℕ) → R (at hs v) (at ks v)
 
 module _ (R : History → History → Type 0) (same : (h : History) → R h h) where
   pub each_map : (f : History → History) → ((h : History) → R h (f h)) → (hs : List History) → Each R hs (map f hs)
-  each_map f g [] zero = same fresh
-  each_map f g [] (suc v) = same fresh
-  each_map f g (x ∷ hs) zero = g x
   each_map f g (x ∷ hs) (suc v) = each_map f g hs v
+  each_map f g hs x3 = grind (arith, common_steps, nat_tests)
 
   pub each_change : (f : History → History) → ((h : History) → R h (f h)) → (u : ℕ) (hs : List History) → Each R hs (change_at u f hs)
   each_change f g u [] v = same (at [] v)
@@ -39,10 +36,8 @@ module _ (R : History → History → Type 0) (same : (h : History) → R h h) w
   gone_here b m x h = grind arith
 
   pub each_gone : (m : ℕ) → ((h : History) → R h (record { writes = h.writes; images = after_set m h.images })) → (ps : List Placed) (hs : List History) → Each R hs (gone_up_to m ps hs)
-  each_gone m g [] hs v = same (at hs v)
-  each_gone m g (p ∷ ps) [] v = same (at [] v)
-  each_gone m g (p ∷ ps) (x ∷ hs) zero = gone_here p.within m x (g x)
   each_gone m g (p ∷ ps) (x ∷ hs) (suc v) = each_gone m g ps hs v
+  each_gone m g ps hs v = grind (arith, common_steps, nat_tests, gone_here)
 
 -- a change at another place
 pub change_other : (f : History → History) (u : ℕ) (hs : List History) (v : ℕ) → (u == v) ≡ false → at (change_at u f hs) v ≡ at hs v
@@ -111,9 +106,6 @@ fewer_reverted n p h = fewer_filter (λ i. not (nat_lt n i.set)) h _
 pub fewer_in_part : (blocks n p k : ℕ) (h : History) → Fewer h (reverted_in_part blocks n p k h)
 fewer_in_part blocks n p k h = fewer_filter (λ i. not (nat_lt n i.set)) h _
 
-pub fewer_gone : (m : ℕ) (h : History) → Fewer h (record { writes = h.writes; images = after_set m h.images })
-fewer_gone m h = fewer_filter (λ i. nat_lt m i.set) h h.writes
-
 -- ## all volumes
 
 pub as_many_map : (f : History → History) (hs : List History) → length (map f hs) ≡ length hs
@@ -125,9 +117,8 @@ as_many_change f zero (x ∷ hs) = refl
 as_many_change f (suc u) (x ∷ hs) = ap (λ n. suc n) (as_many_change f u hs)
 
 pub as_many_gone : (m : ℕ) (ps : List Placed) (hs : List History) → length (gone_up_to m ps hs) ≡ length hs
-as_many_gone m [] hs = refl
-as_many_gone m (p ∷ ps) [] = refl
 as_many_gone m (p ∷ ps) (x ∷ hs) = ap (λ n. suc n) (as_many_gone m ps hs)
+as_many_gone m ps hs = grind (arith, common_steps, nat_tests)
 
 -- as many volumes, each with fewer images
 pub record FewerIn (hs ks : List History) : Type 0 where
@@ -147,7 +138,11 @@ pub fewer_in_change : (f : History → History) → ((h : History) → Fewer h (
 fewer_in_change f g u hs = record { each = each_change Fewer fewer_same f g u hs; as_many = as_many_change f u hs }
 
 pub fewer_in_gone : (m : ℕ) (ps : List Placed) (hs : List History) → FewerIn hs (gone_up_to m ps hs)
-fewer_in_gone m ps hs = record { each = each_gone Fewer fewer_same m (fewer_gone m) ps hs; as_many = as_many_gone m ps hs }
+fewer_in_gone m ps hs = record {
+  each = each_gone Fewer fewer_same m
+      (λ h. fewer_filter (λ i. nat_lt m i.set) h h.writes) ps hs;
+  as_many = as_many_gone m ps hs;
+}
 
 -- ## The effective writes of a volume change by writes and reverts of it alone; so those of a volume of the set in progress do not
 -- change while it is held.
@@ -172,13 +167,6 @@ same_writes v (Drops n u) x e = each_change SameWrites (λ h. refl) (dropped n) 
 same_writes v (Evicts n group) x e = each_gone SameWrites (λ h. refl) n (λ h. refl) group x.volumes v
 same_writes v _ x e = refl
 
--- what holds of one number and not of another tells them apart
-pub apart : (test : ℕ → Bool) (u v : ℕ) → test u ≡ false → test v ≡ true → (u == v) ≡ false
-apart test u v e f = grind arith
-
-held_elsewhere : (s : Plan) (e : Event) (m : Mark) (st x : State) (v : ℕ) → is_in_set v (in_progress st) ≡ true → is_held st v ≡ true → (c : Change) → Comes s e m st x c → rewrites v c ≡ false
-held_elsewhere s e m st x v f g c i = grind (arith, common_steps, apart)
-
 held_volume : (st : State) (v : ℕ) (run : RunsSnapshot st) → Running HoldsOwn st.course.agenda → is_held st v ≡ true → is_among v run.set.volumes ≡ true
 held_volume st v run own e = grind arith
 
@@ -188,7 +176,7 @@ held_for_set s so_far v e = grind (arith, held_means, held_volume, held_own)
 -- no change of an act writes to a volume that is held before it
 pub held_unwritten : (s : Plan) (acts : List Act) (e : Event) (m : Mark) (x : State) (v : ℕ) → is_held (state s acts) v ≡ true → (c : Change) → Comes s e m (state s acts) x c → rewrites v c ≡ false
 held_unwritten s acts e m x v h c i =
-    let held = held_for_set s acts v h in held_elsewhere s e m (state s acts) x v (ap (is_in_set v) held.run.in_progress_is ∙ held.volume) h c i
+    let held = held_for_set s acts v h in grind (arith, common_steps, (ap (is_in_set v) held.run.in_progress_is ∙ held.volume))
 
 pub held_keeps : (s : Plan) (acts : List Act) (act : Act) (v : ℕ) → is_held (state s acts) v ≡ true → (history_of (after s (state s acts) act) v).writes ≡ (history_of (state s acts) v).writes
 held_keeps s acts act v h =

@@ -2,13 +2,10 @@
 -- a limit runs, which an idle stretch spends.
 use Rattle.std.proofs.Common.{◌≡◌, ℕ, ◌+◌, List, [], ◌∷◌, Option, Some, None, Bool, true, false, arith}
 use Rattle.std.specs.Prelude.{◌⊎◌, is_some}
-use Rattle.vss_model.proofs.Terms.{nat_tests, common_steps, VssResult, Said, Kind, Member, Place, Agenda, Open, with_group, waited_for, left_from, groups_left}
-use Rattle.vss_model.proofs.Terms.{is_among, open_order, is_asking, is_working, next_member, is_done, running_at, spent_of, ticks_to_spend, Course, posted}
-use Rattle.vss_model.proofs.Terms.{failed as course_failed, settled, begun, decided, answered as course_answered, stepped as course_stepped, limits_now}
-use Rattle.vss_model.proofs.Terms.{lost_decided, treated, released, is_spent, ticks_until, Plan, State, start, left_now, runs, Act, state, order_of_writer}
-use Rattle.vss_model.proofs.Terms.{idle_now}
-use Rattle.set_agenda.specs.Limits.{Running}
-use Rattle.vss_model.proofs.StateForm.{later}
+use Rattle.vss_model.proofs.Terms.{nat_tests, common_steps, VssResult, Said, Kind, Member, Place, Agenda, Open, left_from, groups_left, is_among, is_asking}
+use Rattle.vss_model.proofs.Terms.{is_working, next_member, is_done, spent_of, Course, posted, failed as course_failed, settled, begun, decided}
+use Rattle.vss_model.proofs.Terms.{stepped as course_stepped, limits_now, treated, released, is_spent, ticks_until, Plan, State, start, left_now, runs, Act}
+use Rattle.vss_model.proofs.Terms.{state, order_of_writer, idle_now, RunningLimit as Running}
 use Rattle.vss_model.proofs.Changes.{CourseCall, called}
 use Rattle.vss_model.proofs.Rules.{of_calls}
 
@@ -33,17 +30,11 @@ open_settled c = grind (arith, common_steps, nat_tests)
 open_decided : (fails : Bool) (said : Said) (c : Course) → IsOpen (decided fails said c).agenda
 open_decided fails said c = grind (arith, open_failed, open_settled)
 
-open_answered : (w : ℕ) (said : Said) (now : ℕ) (c : Course) → IsOpen c.agenda → IsOpen (course_answered w said now c).agenda
-open_answered w said now c h = grind (arith, common_steps, nat_tests, open_posted, open_decided)
-
 open_stepped : (ok : Bool) (now : ℕ) (c : Course) → IsOpen (course_stepped ok now c).agenda
 open_stepped ok now c = grind (arith, common_steps, nat_tests, open_posted, open_settled, open_failed)
 
-open_lost_decided : (b : Bool) (c : Course) → IsOpen (lost_decided b c).agenda
-open_lost_decided b c = grind (arith, open_failed, open_settled)
-
 open_treated : (l : Option Running) (now : ℕ) (c : Course) → IsOpen c.agenda → IsOpen (treated l now c).agenda
-open_treated l now c h = grind (arith, common_steps, open_failed, open_lost_decided)
+open_treated l now c h = grind (arith, common_steps, open_failed, open_settled)
 
 open_begun : (k : Kind) (ms : List Member) (vs : List ℕ) (now : ℕ) (c : Course) → IsOpen (begun k ms vs now c).agenda
 unfolding begun
@@ -53,7 +44,7 @@ open_begun k ms vs now c = open_posted c _ (open_settled (record c { agenda = So
 
 open_called : (s : Plan) (st : State) (call : CourseCall) (c : Course) → IsOpen c.agenda → IsOpen (called s st call c).agenda
 unfolding released
-open_called s st call c h = grind (arith, common_steps, open_answered, open_stepped, open_posted, open_treated, open_begun, open_failed)
+open_called s st call c h = grind (arith, common_steps, open_stepped, open_posted, open_treated, open_begun, open_failed, nat_tests, open_decided)
 
 stays_open : (s : Plan) (acts : List Act) → IsOpen (state s acts).course.agenda
 stays_open s acts = of_calls (λ c. IsOpen c.agenda) s (λ st call c i h. open_called s st call c h) (start s) acts tt
@@ -65,38 +56,21 @@ abbrev pub WaitsWell : List Open → Type 0
 WaitsWell [] = Unit {0}
 WaitsWell (o ∷ os) = is_among (next_member (o ∷ os)) o.waits ≡ true
 
-waits-with_group : (p : Place) (ws : List ℕ) (later : List Open) → WaitsWell later → WaitsWell (with_group p ws later)
-waits-with_group p ws later h = grind arith
-
 pub waits-left_from : (a : Agenda) (ps : List Place) → WaitsWell (left_from a ps)
 waits-left_from a [] = tt
-waits-left_from a (p ∷ ps) = waits-with_group p (waited_for a p) (left_from a ps) (waits-left_from a ps)
-
--- the provider has a step to make, or the first who is waited for has an order to answer
-goes_in : (os : List Open) → is_done os ≡ false → WaitsWell os → (is_working os ≡ true) ⊎ (is_some (open_order os (next_member os)) ≡ true)
-goes_in os e h = grind arith
+waits-left_from a (p ∷ ps) = grind (arith, waits-left_from a ps)
 
 pub agenda_goes_on : (s : Plan) (acts : List Act) → runs (state s acts) ≡ true
     → (is_working (left_now (state s acts)) ≡ true) ⊎ (is_some (order_of_writer (state s acts) (next_member (left_now (state s acts)))) ≡ true)
-agenda_goes_on s acts e = grind (arith, common_steps, nat_tests, stays_open, goes_in, waits-left_from)
+agenda_goes_on s acts e = grind (arith, common_steps, nat_tests, stays_open, waits-left_from)
 
 -- ## an idle stretch spends a limit
 
 spends_one : (now since ticks : ℕ) → is_spent (now + ticks_until now since ticks) since ticks ≡ true
 spends_one now since ticks = grind arith
 
-spends_at : (now : ℕ) (ls : List Running) (l : Running) → ls ≡ l ∷ [] → is_some (spent_of (now + ticks_to_spend now ls) ls) ≡ true
-spends_at now ls l e = grind (arith, common_steps, nat_tests, spends_one)
-
-record HasOne (ls : List Running) : Type 0 where
-  one : Running
-  is : ls ≡ one ∷ []
-
-one_at : (freeze : ℕ) (a : Agenda) (os : List Open) → is_asking os ≡ true → HasOne (running_at freeze a os)
-one_at freeze a os e = grind arith
-
 pub idle_spends : (s : Plan) (acts : List Act) → is_asking (left_now (state s acts)) ≡ true → is_some (spent_of ((state s acts).clock + idle_now (state s acts)) (limits_now (state s acts).course)) ≡ true
-idle_spends s acts e = grind (arith, common_steps, nat_tests, one_at, spends_at)
+idle_spends s acts e = grind (arith, common_steps, nat_tests, spends_one)
 
 pub working_or_asking : (s : Plan) (acts : List Act) → runs (state s acts) ≡ true → (is_working (left_now (state s acts)) ≡ true) ⊎ (is_asking (left_now (state s acts)) ≡ true)
 working_or_asking s acts e = grind (arith, common_steps, nat_tests, stays_open)

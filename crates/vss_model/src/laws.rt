@@ -7,6 +7,7 @@ ghost use Rattle.vss_model.specs.Reply.{leaves_all};
 ghost use Rattle.vss_model.specs.Acts.{Act, after, changes, enabled, reply};
 
 /// An act that is not enabled, is refused, or only looks has no changes, in any state; and without changes the state stays.
+#[tactic(auto, using(crate::proofs::Changes::none_if_blocked, crate::proofs::Changes::none_if_refused, crate::proofs::Changes::stays))]
 pub fn refused_acts_have_no_changes()
     ensures blocked { (s : Plan) (st : State) (act : Act) → enabled s st act.event ≡ false → changes s st act ≡ [] }
     ensures refused { (s : Plan) (st : State) (act : Act) → leaves_all (reply s st act) ≡ true → changes s st act ≡ [] }

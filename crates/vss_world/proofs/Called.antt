@@ -1,24 +1,23 @@
 -- A session line, against the acts, and what it does to the set in progress and its images that are still to come.
-use Rattle.std.proofs.Common.{◌≡◌, ℕ, [], refl, subst, Bool, true, false, Option, Some, None, ◌⊎◌, inr, is_some, if◌then◌else◌, arith, List, ◌∷◌, ◌++◌, ap, sym}
+use Rattle.std.proofs.Common.{◌≡◌, ℕ, [], refl, subst, Bool, true, false, Option, Some, None, ◌⊎◌, inr, is_some, arith, List, ◌∷◌, ◌++◌, ap, sym}
 use Rattle.std.proofs.Common.{◌∙◌, option_map, ◌==◌, ◌<◌, length, ◌||◌, not, Result, Ok, Err}
 use Rattle.set_agenda.specs.Course.{released}
 use Rattle.set_agenda.specs.declared.kind.Kind.TheVariants as kind
 use Rattle.requestor.specs.declared.session_call.SessionCall.TheVariants as call
-use Rattle.scenario.specs.declared.line.Line.{Line as Does}
 use Rattle.scenario.specs.declared.op.Op.TheVariants.{Snapshot}
 use Rattle.scenario.specs.declared.op.Op.TheVariants as op
-use Rattle.vss_model.specs.Words.{Reply, line_of}
+use Rattle.vss_model.specs.Words.{Reply}
 use Rattle.vss_model.specs.declared.told.Told.TheVariants as told
 use Rattle.vss_model.proofs.ByEvent.{reply_is}
 use Rattle.vss_model.proofs.StateForm.{closed, called}
 use Rattle.vss_world.proofs.Following.{at_of, course_of, set_move, ends_of, session_comes}
 use Rattle.vss_world.proofs.Moved.{world_of, IsProviderAt, clean_devices, leaves_of, goes_on, in_order, after_line, goes_nowhere as goes_nowhere_moved}
-use Rattle.vss_world.proofs.Prepared.{runs_number, IsUnended, none_of_zero, settled_comes, settled_keeps, unended, none_ended}
+use Rattle.vss_world.proofs.Prepared.{runs_number, IsUnended, none_of_zero, settled_comes, settled_keeps, unended}
 use Rattle.vss_world.proofs.SetGoesOn.{GoesOn, IsOfAgenda, BeginsSnapshot, goes_nowhere, failed_goes, begun_goes, snapshot_begins}
 use Rattle.vss_world.proofs.Words.{AsyncCancelled, AsyncPending, BadState, Coded, Covers, Event, Go, IsOfSession, Line, Mark, Op, Plan, Refused, Replied}
-use Rattle.vss_world.proofs.Words.{Session, SetRow, Start, State, Target, Verdict, VssResult, call_in, call_of, check, check_other, covered, enabled, failed}
-use Rattle.vss_world.proofs.Words.{find-append_new, has_no_volume, in_progress, is_add, judged, line, line_in, new_set, none_after, none_runs, not_started}
-use Rattle.vss_world.proofs.Words.{other_goes, runs, target_in, Act, AreGroups, AreKept, EndsAs, Evicted, Fits, Ghosts, IfStands, IsAtOver, IsEndPrepared}
+use Rattle.vss_world.proofs.Words.{Session, SetRow, Start, State, Verdict, VssResult, call_of, check, check_other, covered, enabled, failed}
+use Rattle.vss_world.proofs.Words.{find-append_new, in_progress, is_add, judged, line, line_in, new_set, none_after, none_runs, not_started}
+use Rattle.vss_world.proofs.Words.{other_goes, runs, Act, AreGroups, AreKept, EndsAs, Evicted, Fits, Ghosts, IfStands, IsAtOver, IsEndPrepared}
 use Rattle.vss_world.proofs.Words.{IsMove, IsMoved, IsOf, IsOp, IsPrepared, IsSettled, IsStanding, Leaves, NumberedFrom, ProviderValue, SessionMove}
 use Rattle.vss_world.proofs.Words.{SessionsValue, Told, after, after_move, are_distinct, begins_snapshot, counts_of, current_kept, current_of, ended_of}
 use Rattle.vss_world.proofs.Words.{images_after, is_fault, line_allows, mark_of, none_over, number_prepared, orderly, state, state-append, told_act, volumes_of}
@@ -61,10 +60,6 @@ EventGoes st _ mark r = Unit {0}
 nothing_goes : (op : Op) (told : Reply) (st : State) → CallGoes op st (told, st)
 nothing_goes op told st = grind arith
 
--- a write is no session line
-no_call : (l : Does) (t : Target) → target_in l ≡ Some t → is_some (call_in l) ≡ true → ⊥
-no_call l t e f = grind arith
-
 -- the session is over, and with it a set in progress
 closed_goes : (q : Session) (st next : State) → in_progress next ≡ None → GoesOn st next → GoesOn st (closed q next)
 unfolding closed released
@@ -74,7 +69,7 @@ module _ (s : Plan) (lane : ℕ) (st : State) (of : IsOfAgenda st) where
   events_go : IsOfSession st.session st.course.outcome (in_progress st) → Covers (EventGoes st) s st
   events_go session = record {
     stays = λ lane op mark told e c i j. nothing_goes op told st;
-    writes = λ lane op v w mark e f i j. absurd (no_call (line_of op) _ e i);
+    writes = λ lane op v w mark e f i j. absurd (grind arith);
     reverts = λ lane n v k mark e f i j. cc;
     deletes_set = λ lane n c mark e i j. cc;
     deletes_image = λ lane n v k mark e i j. cc;
@@ -105,11 +100,8 @@ module _ (s : Plan) (lane : ℕ) (st : State) (of : IsOfAgenda st) where
   refused_as : (why : VssResult) → check_other st.session (runs st) lane call.Snapshot ≡ Refused why → why ≡ AsyncPending → ⊥
   refused_as why e f = grind arith
 
-  snapshot_if : (b : Bool) (x y : Replied) → has_no_volume (in_progress st) ≡ b → SnapshotGoes st x → (((in_progress st ≡ None) → ⊥) → SnapshotGoes st y) → SnapshotGoes st (if b then x else y)
-  snapshot_if b x y e h k = grind arith
-
   snapshot_in : check_other st.session (runs st) lane call.Snapshot ≡ Go → (o : Option Session) → SnapshotGoes st (line_in s lane Snapshot o st)
-  snapshot_in go o = grind (arith, not_pending, goes_nowhere, snapshot_if, snapshot_begins, none_runs, other_goes)
+  snapshot_in go o = grind (arith, not_pending, goes_nowhere, snapshot_begins, none_runs, other_goes)
 
   judged_snapshot : (verdict : Verdict) → check_other st.session (runs st) lane call.Snapshot ≡ verdict → SnapshotGoes st (judged verdict s lane Snapshot st)
   judged_snapshot verdict e = grind (arith, snapshot_in, not_pending, goes_nowhere, refused_as)
@@ -170,7 +162,7 @@ module _ {D : Type 0} (device : Ghosts D) (s : Plan) (op : Op) (m : SessionMove)
   -- where no set ends
   quiet : ended_of (in_progress st) next.sets ≡ None → IsUnended device.told s p q next.volumes
   quiet none = unended device s p st.volumes (none_of_zero s acts) groups next m q settled
-      (none_ended (ended_of (in_progress st) next.sets) m.outcome.set m.outcome.result none ends) volumes
+      (grind arith) volumes
 
   starts_left : StartsSet st next → begins_snapshot op m.outcome.told ≡ false → IsProviderAt device.told s r next
   starts_left starts plain = grind (arith, quiet, not_ended)
@@ -255,10 +247,6 @@ refused_line s lane v why mark st h = ap (λ (t : Verdict). (judged t s lane (op
 ran_more : (v : ℕ) (r : SetRow) (st : State) → in_progress st ≡ Some r → in_progress (change_set r.number (with_volume v) st) ≡ Some (with_volume v r)
 ran_more v r st here = grind (arith, find-map, eq-eqb)
 
--- no set is numbered where no agenda runs
-not_numbered : (o : Option SetRow) → number_prepared o None ≡ 0
-not_numbered o = grind arith
-
 -- a state at which the provider answers
 record IsAdding {D : Type 0} (blocks_told : D → Option (List (List ℕ))) (s : Plan) (p : ProviderValue D) (x : SessionsValue) (st : State) : Type 0 where
   at : IsAt x s st
@@ -333,7 +321,7 @@ module _ {D : Type 0} (device : Ghosts D) (s : Plan) {lane v : ℕ} {verdict : V
         (subst (λ (z : ProviderValue D). IsProviderAt device.told s z next) (sym is) (
           record {
             volumes = ap (λ (vs : List ℕ). vs ++ v ∷ []) (volumes st at) ∙ sym (ap volumes_of ran);
-            set = at.provider.0.set ∙ ap (number_prepared (in_progress st)) r.rests ∙ not_numbered (in_progress st)
+            set = at.provider.0.set ∙ ap (number_prepared (in_progress st)) r.rests ∙ (grind arith)
                 ∙ sym (ap (λ (o : Option SetRow). number_prepared o st.course.agenda) ran ∙ ap (number_prepared (Some (with_volume v r.row))) r.rests);
             distinct = distinct_more v p.volumes alone at.provider.0.distinct;
           },

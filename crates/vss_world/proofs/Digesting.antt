@@ -8,12 +8,12 @@ use Rattle.provider.proofs.Words.{HasImageCause, ImageFault, IsQuiet as IsGroups
 use Rattle.vss_world.proofs.Looking.{digest_slot}
 use Rattle.vss_world.proofs.Moved.{world_of, of_kept}
 use Rattle.vss_world.proofs.Kept.{some_is}
-use Rattle.vss_world.proofs.Words.{Act, AreDevicesAlone, AreGroups, Digested, Evicted, Ghosts, GroupValue, HasImage, IfStandFor, IfStands, IsDigestIf}
+use Rattle.vss_world.proofs.Words.{Act, AreDevicesAlone, AreGroups, Digested, Evicted, Ghosts, GroupValue, IfStandFor, IfStands, IsDigestIf}
 use Rattle.vss_world.proofs.Words.{IsDigestOf, IsDigestTold, IsDigestedAt, IsDigestedIf, IsOf, IsPointOf, IsQuiet, IsStanding, Plan, ProviderValue}
 use Rattle.vss_world.proofs.Words.{SessionsValue, Stands, State, WorldValue, blocks_of, concat, contents, devices_of, history_of, is_kept_set, kept}
 use Rattle.vss_world.proofs.Words.{point_before as kept_point, point_in, state, tells_of, AllTell as AllDevicesTell, AreLasting, AreStored, Area, Cause}
 use Rattle.vss_world.proofs.Words.{HasGroups, HasSyncCause, IsAreaHeld, IsSynced, LastsAt, RoseAlone, area_device_at, area_is_set, area_place, blocks_in_group}
-use Rattle.vss_world.proofs.Words.{copies, copies_in_group, device_at, eqb-false, eqb-true, of_group, placed, slice_get-set_other, slice_get-set_same}
+use Rattle.vss_world.proofs.Words.{copies, copies_in_group, device_at, eqb-false, eqb-true, of_group, slice_get-set_other, slice_get-set_same}
 use Rattle.vss_world.proofs.Words.{slice_get_inside, slice_get_within, told_of as told_by}
 
 -- ## Digests of volumes and of images: what is told of them, and that nothing but counts of devices changes.
@@ -48,17 +48,12 @@ point_stands : (s : Plan) (acts : List Act) (n v point : ℕ) → point_in n (ke
     → point_in n (history_of (state s acts) v).images ≡ Some point
 point_stands s acts n v point e = let st = state s acts in kept_point (is_kept_set st) n point (history_of st v).images e
 
--- a call on one finds it
-stands_image : {D : Type 0} {told : D → Option (List (List ℕ))} {s : Plan} {w : WorldValue D} (set v : ℕ) → IsStanding told w s
-    → IfStands told w s (λ st. is_some (point_in set (kept st (history_of st v))) ≡ true) → HasImage told s w.provider.groups v set false → ⊥
-stands_image set v standing is none = grind (arith, some_is, point_stands)
-
 -- what is asked for is there: a volume, or a kept image
 pub stands_there : {D : Type 0} (told : D → Option (List (List ℕ))) (s : Plan) (w : WorldValue D) (set : Option ℕ) (v : ℕ) → IfSome set (λ n. IsStanding told w s)
     → IfSome set (λ n. IfStands told w s (λ st. is_some (point_in n (kept st (history_of st v))) ≡ true))
     → IsThere told s w.provider.groups v set false → ⊥
 stands_there told s w None v standing is none = cc
-stands_there told s w (Some set) v standing is none = stands_image set v standing is none
+stands_there told s w (Some set) v standing is none = grind (arith, some_is, point_stands)
 
 -- a fault of a call on what is there is a device's
 pub device_fault : {D : Type 0} (device : Ghosts D) (s : Plan) (v : ℕ) (set : Option ℕ) (fault : ImageFault) (old new : List (GroupValue D)) → (IsThere device.told s old v set false → ⊥)
@@ -84,13 +79,8 @@ module _ {D : Type 0} (told : D → Option (List (List ℕ))) {s : Plan} {p : Pr
   told_of {v = v} (Some set) digest within h acts stands =
       λ point shows. digest_of (Some set) digest (state s acts) point within stands.at.groups h (point_stands s acts set v point shows)
 
-  -- those that were made side by side
-  one_digested : {v : ℕ} (set : Option ℕ) (digest : Option (List ℕ)) → IfSome digest (IsDigestTold told s p.groups v set) → v < length s.volumes
-      → (acts : List Act) → Stands told w s acts → IfSome digest (IsDigestOf (tells_of told s w.devices) s (state s acts) v set)
-  one_digested set digest h within acts stands = grind (arith, told_of)
-
   pub digested_told : (rows : List Digested) → All (IsDigestedAt told s p.groups) rows → IfStands told w s (λ st. All (IsDigestedIf (tells_of told s w.devices) s st) rows)
-  digested_told rows all acts stands = grind (arith, one_digested)
+  digested_told rows all acts stands = grind (arith, told_of)
 
 -- ## A group's area is brought to where it lasts: every other device is as it was, and the area's holds the copies.
 
@@ -143,11 +133,6 @@ synced_is device {s = s} {group = group} {p = p} {q = q} {x = x} {l = l} {e = e}
 
 -- ## what the area's device holds
 
--- a group's copies are those of the histories that the provider has
-copies_same : (s : Plan) (acts : List Act) (g : ℕ)
-    → copies (map (placed g) s.volumes) (state s acts).volumes ≡ copies (all_placed (blocks_in_group g s.volumes)) (of_group g s.volumes (state s acts).volumes)
-copies_same s acts g = grind (arith, copies_in_group)
-
 -- what a sync comes to, whatever it answers
 pub record IsSyncOf {D : Type 0} (device : Ghosts D) (s : Plan) (group : ℕ) (result : Result Unit Cause) (old new : WorldValue D) : Type 0 where
   pub held : OnOk result (IsAreaHeld device.told new s group)
@@ -179,7 +164,7 @@ module _ {D : Type 0} (device : Ghosts D) {s : Plan} {group : ℕ} {p : Provider
         let stored = (lasts was.0 is.0 was.1 is.1).1 hs stands.at.groups all in
         subst (λ (t : Option (List (List ℕ))). AreStored t (copies (all_placed (blocks_in_group group s.volumes)) (of_group group s.volumes st.volumes)))
         (sym (ap (told_by device.told) (area_device_at s q.groups group is.0 has is.1)))
-        (subst (AreStored (device.told is.0.area.device)) (copies_same s acts group) stored)
+        (subst (AreStored (device.told is.0.area.device)) (grind (arith, copies_in_group)) stored)
 
     -- what the area's device tells lasts
     area_lasts : LastsAt device (area_place group s.volumes) (devices_of q.groups)

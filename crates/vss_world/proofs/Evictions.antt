@@ -67,14 +67,11 @@ lost_itself : (n : ℕ) (hs : List History) → has_lost_image n hs hs ≡ false
 lost_itself n [] = refl
 lost_itself n (h ∷ hs) = or_from (has_image n h && not (has_image n h)) (has_lost_image n hs hs) (and_not (has_image n h)) (lost_itself n hs)
 
-kept_if : (b : Bool) (m n : ℕ) (h : History) → m < n → (has_image n h && not (has_image n (if b then record { writes = h.writes; images = after_set m h.images } else h))) ≡ false
-kept_if b m n h l = grind (arith, stays, and_not)
-
 -- the image of a later set is not lost
 pub not_lost : (m n : ℕ) (ps : List Placed) (hs : List History) → m < n → has_lost_image n hs (gone_up_to m ps hs) ≡ false
 not_lost m n [] hs l = lost_itself n hs
 not_lost m n (p ∷ ps) [] l = refl
-not_lost m n (p ∷ ps) (h ∷ hs) l = or_from _ (has_lost_image n hs (gone_up_to m ps hs)) (kept_if p.within m n h l) (not_lost m n ps hs l)
+not_lost m n (p ∷ ps) (h ∷ hs) l = or_from _ (has_lost_image n hs (gone_up_to m ps hs)) (grind (arith, stays, and_not)) (not_lost m n ps hs l)
 
 lost_if : (b : Bool) (k : ℕ) (h : History) → UpTo (suc k) h.images
     → (has_image (suc k) h && not (has_image (suc k) (if b then record { writes = h.writes; images = after_set (suc k) h.images } else h))) ≡ false
@@ -104,12 +101,9 @@ needs_none n (suc v) b (q ∷ ps) (h ∷ hs) p e w up = needs_none n v b ps hs p
 
 -- ## the least number
 
-below_if : (t : Bool) (a n x : ℕ) (o : Option ℕ) → (if t then Some a else o) ≡ Some x → (o ≡ Some x → x < (a + 1) + n) → x < a + suc n
-below_if t a n x o g h = grind arith
-
 found_below : (f : ℕ → Bool) (a n x : ℕ) → find f (range_with_len a n) ≡ Some x → x < a + n
 found_below f a zero x e = cc
-found_below f a (suc n) x e = below_if (f a) a n x (find f (range_with_len (a + 1) n)) e (found_below f (a + 1) n x)
+found_below f a (suc n) x e = grind (arith, (found_below f (a + 1) n x))
 
 none_by : (t u : Bool) (f : ℕ → Bool) (a n k : ℕ) (o : Option ℕ) → f a ≡ t → (a == k) ≡ u → (if t then Some a else o) ≡ None → a ≤ k → (o ≡ None → a + 1 ≤ k → f k ≡ false) → f k ≡ false
 none_by t u f a n k o g i e l h = grind arith
@@ -222,17 +216,11 @@ of_rows f rows = flat_map (λ (r : SetRow). f r.number) (completes rows)
 row_first : (f : ℕ → List Evicted) (r : SetRow) (rows : List SetRow) (b : Bool) → is_complete r.result ≡ b → of_rows f (r ∷ rows) ≡ (if b then f r.number else []) ++ of_rows f rows
 row_first f r rows b e = grind arith
 
-none_if_kept : (b : Bool) (xs ys : List Evicted) → xs ≡ [] → (if b then xs else []) ++ ys ≡ ys
-none_if_kept b xs ys e = grind arith
-
 past_rows : (f : ℕ → List Evicted) (k : ℕ) (rows : List SetRow) → NumberedFrom k rows → ((n : ℕ) → k ≤ n → f n ≡ []) → of_rows f rows ≡ []
 past_rows f k [] numbered none = refl
 past_rows f k (r ∷ rows) numbered none =
-    row_first f r rows (is_complete r.result) refl ∙ none_if_kept (is_complete r.result) (f r.number) (of_rows f rows) (let here = numbered.0 in none r.number (omega (arith, here)))
+    row_first f r rows (is_complete r.result) refl ∙ (grind (arith, (let here = numbered.0 in none r.number (omega (arith, here)))))
     ∙ past_rows f (k + 1) rows numbered.1 (λ n l. none n (omega (arith, l)))
-
-first_row : (m : ℕ) (r : SetRow) (rows : List SetRow) → NumberedFrom m (r ∷ rows) → has_complete (r ∷ rows) r.number ≡ is_complete r.result
-first_row m r rows numbered = grind (arith, eq-eqb, none_below, or-false)
 
 -- a row further on has another number
 later_rows : (m n : ℕ) (r : SetRow) (rows : List SetRow) → r.number ≡ m → m + 1 ≤ n → has_complete (r ∷ rows) n ≡ has_complete rows n
@@ -245,7 +233,8 @@ rows_are f g k (suc j) [] numbered near far few = absurd (omega (arith, few))
 rows_are f g k (suc j) (r ∷ rows) numbered near far few =
     let here : r.number ≡ k = numbered.0 in
     ap (λ (xs : List Evicted). xs ++ flat_map g (range_with_len (k + 1) j))
-    (near k (omega arith) (omega arith) ∙ ap (λ (n : ℕ). if has_complete (r ∷ rows) n then f n else []) (sym here) ∙ ap (λ (t : Bool). if t then f r.number else []) (first_row k r rows numbered))
+    (near k (omega arith) (omega arith) ∙ ap (λ (n : ℕ). if has_complete (r ∷ rows) n then f n else []) (sym here)
+    ∙ ap (λ (t : Bool). if t then f r.number else []) (grind (arith, eq-eqb, none_below, or-false)))
     ∙ ap (λ (xs : List Evicted). (if is_complete r.result then f r.number else []) ++ xs)
     (rows_are f g (k + 1) j rows numbered.1
     (λ n l m. near n (omega (arith, l)) (omega (arith, m)) ∙ ap (λ (t : Bool). if t then f n else []) (later_rows k n r rows here l)) (λ n l. far n (omega (arith, l))) (omega (arith, few)))

@@ -1,14 +1,13 @@
 -- A move of the sessions, against the acts: what they come to, with the images that go.
-use Rattle.std.proofs.Common.{◌≡◌, ℕ, ◌*◌, ◌<◌, ◌≤◌, ◌^◌, ◌-◌, List, [], ◌∷◌, ◌++◌, length, refl, ap, sym, ◌∙◌, subst, arith, true, false, Bool, Option, Some}
+use Rattle.std.proofs.Common.{◌≡◌, ℕ, ◌<◌, ◌≤◌, ◌^◌, ◌-◌, List, [], ◌∷◌, ◌++◌, length, refl, ap, sym, ◌∙◌, subst, arith, true, false, Bool, Option, Some}
 use Rattle.std.proofs.Common.{None, map, ◌+◌}
 use Rattle.vss_world.proofs.Words.{Act, EndsAs, Event, Evicted, Fault, FaultAfter, Ghosts, IfStands, IsAt, IsBlocked, IsMove, IsMoved, IsOf, IsOutcome}
-use Rattle.vss_world.proofs.Words.{IsPrepared, IsSettled, IsStanding, IsStandingIn, IsWait, Keeps, Mark, NumberedFrom, Plan, ProviderValue, SessionMove}
+use Rattle.vss_world.proofs.Words.{IsPrepared, IsSettled, IsStanding, IsStandingIn, IsWait, Mark, NumberedFrom, Plan, ProviderValue, SessionMove}
 use Rattle.vss_world.proofs.Words.{SessionsValue, SetRow, State, after, after_move, devices_of, dropped, ended_of, event_volumes, images_after, in_progress}
-use Rattle.vss_world.proofs.Words.{is_fault, is_snapshot, kind_is, Kind, Member, Snapshot, Agenda, Tied, tied, length_bare, mark_of, named_known_components}
+use Rattle.vss_world.proofs.Words.{is_fault, is_snapshot, kind_is, Agenda, Tied, tied, length_bare, mark_of, named_known_components}
 use Rattle.vss_world.proofs.Words.{number_prepared, orderly, outcome_is_running, state, state-append, tells_of, told_act, Answer as AnswerEvent, Idle, Leaves}
 use Rattle.vss_world.proofs.Words.{LeavesWithin, Line, Tick, call_answered, call_timed, event_allows, happens, idle_now, later, later_by, said_of}
 use Rattle.vss_world.proofs.Words.{timed as course_timed}
-use Rattle.vss_model.proofs.Words.{IsOf as IsOfSet}
 use Rattle.vss_world.specs.Words.{IsOf as IsSessionsOf, IsStanding as IsSessionsStanding}
 use Rattle.vss_world.proofs.Moved.{world_of, IsProviderAt, OfDevices, Goes, in_order, moved, clean_devices, leaves_of, later_of, goes_on, goes_later, after_on}
 use Rattle.vss_world.proofs.InPlan.{IsEventIn, in_plan_after}
@@ -26,9 +25,6 @@ at_of {s = s} of acts stands = record { keeps = stands.at.sessions; of = of.writ
 few_posts : (n m : ℕ) → n ≤ m → m < 2097152 → n < 2 ^ 32 - 1
 few_posts n m l k = omega arith
 
-early_clock : (n m : ℕ) → n ≤ 1000000000 * m → m < 2097152 → n < 2 ^ 62
-early_clock n m l k = omega arith
-
 pub standing_in : {D : Type 0} {blocks_told : D → Option (List (List ℕ))} {s : Plan} {p : ProviderValue D} {x : SessionsValue} {l : List ℕ} {e : List Evicted}
     → IsOf (world_of p x l e) s → IsStanding blocks_told (world_of p x l e) s → IsStandingIn s x
 standing_in {s = s} {x = x} of standing =
@@ -40,37 +36,27 @@ standing_in {s = s} {x = x} of standing =
       at = at_of of standing.acts stands;
       posts = few_posts x.coordinator.posts n stands.posts standing.few;
       sets = few_posts (length st.sets) n (subst (λ k. k ≤ n) (ap length stands.at.sessions.sets ∙ length_bare st.sets) stands.sets) standing.few;
-      early = early_clock x.clock n stands.early standing.few;
+      early = omega (arith, stands.early, standing.few);
     }
 
 pub standing_of : {D : Type 0} {blocks_told : D → Option (List (List ℕ))} {s : Plan} {p : ProviderValue D} {x : SessionsValue} {l : List ℕ} {e : List Evicted}
     → IsOf (world_of p x l e) s → IsStanding blocks_told (world_of p x l e) s → IsSessionsStanding x
 standing_of {s = s} of standing = let h = standing_in of standing in record { plan = s; standing = h }
 
-pub rows_long : (s : Plan) (x : SessionsValue) (st : State) → Keeps x st → IsSessionsOf x s → length st.course.rows ≡ length s.writers
-rows_long s x st keeps of = sym (ap length keeps.course.follows.rows) ∙ of.count
-
 -- ## the set of a snapshot's agenda
-
-volumes_are : (k : Kind) (vs : List ℕ) (ms participants : List Member) (o : Option SetRow) (r : SetRow) → k ≡ Snapshot → o ≡ Some r → IsOfSet k vs ms participants o → vs ≡ r.volumes
-volumes_are k vs ms participants o r e f h = grind arith
 
 -- the running snapshot agenda has the volumes of the set in progress
 pub agenda_volumes : (s : Plan) (acts : List Act) (a : Agenda) (r : SetRow) → (state s acts).course.agenda ≡ Some a → is_snapshot a.kind ≡ true → in_progress (state s acts) ≡ Some r
     → a.volumes ≡ r.volumes
 agenda_volumes s acts a r runs snapshot e =
     let st = state s acts in
-    volumes_are a.kind a.volumes a.members st.course.members (in_progress st) r (kind_is a.kind snapshot) e
-    (subst (λ (o : Option Agenda). Tied o st.course.members (in_progress st)) runs (tied s acts))
-
-no_set_is : (k : Kind) (vs : List ℕ) (ms participants : List Member) (o : Option SetRow) → k ≡ Snapshot → o ≡ None → IsOfSet k vs ms participants o → ⊥
-no_set_is k vs ms participants o e f h = grind arith
+    grind (arith, (kind_is a.kind snapshot), (subst (λ (o : Option Agenda). Tied o st.course.members (in_progress st)) runs (tied s acts)))
 
 -- it has a set in progress
 pub has_snapshot_set : (s : Plan) (acts : List Act) (a : Agenda) → (state s acts).course.agenda ≡ Some a → is_snapshot a.kind ≡ true → in_progress (state s acts) ≡ None → ⊥
 has_snapshot_set s acts a runs snapshot e =
     let st = state s acts in
-    no_set_is a.kind a.volumes a.members st.course.members (in_progress st) (kind_is a.kind snapshot) e (subst (λ (o : Option Agenda). Tied o st.course.members (in_progress st)) runs (tied s acts))
+    grind (arith, (kind_is a.kind snapshot), (subst (λ (o : Option Agenda). Tied o st.course.members (in_progress st)) runs (tied s acts)))
 
 -- ## the move
 
@@ -120,7 +106,8 @@ module _ {D : Type 0} (device : Ghosts D) (s : Plan) (event : Event) (m : Sessio
           groups = (comes acts stands).1;
           prepared = (comes acts stands).0;
           sessions = move.keeps st here;
-          plan = in_plan_after s st (told_act event m.outcome.told) (rows_long s x st stands.at.sessions of.writers) within stands.at.plan;
+          plan = in_plan_after s st (told_act event m.outcome.told)
+              (sym (ap length stands.at.sessions.course.follows.rows) ∙ of.writers.count) within stands.at.plan;
         };
       })
 

@@ -1,12 +1,12 @@
 -- The volumes of sets and agendas, and the writers that take part or are disabled, stay those of the scenario, whatever happens.
-use Rattle.std.proofs.Common.{◌≡◌, ℕ, ◌+◌, ◌<◌, ◌≤◌, ◌==◌, List, [], ◌∷◌, ◌++◌, Option, Some, None, refl, Bool, true, false, subst, length, arith, option_map, map, filter, find, if◌then◌else◌, not}
+use Rattle.std.proofs.Common.{◌≡◌, ℕ, ◌+◌, ◌<◌, ◌≤◌, ◌==◌, List, [], ◌∷◌, ◌++◌, Option, Some, None, Bool, true, false, subst, length, arith, option_map, map, filter, find, if◌then◌else◌, not}
 use Rattle.vss_world.proofs.Words.{Act, Agenda, AreBelow, AsyncCancelled, Course, Covers, Ending, Event, Group, History, IsAgendaIn}
-use Rattle.vss_world.proofs.Words.{IsInPlan, IsKeptInCourse, IsOp, Kept, Kind, Level, Line, Mark, Member, MembersBelow, Ok, Open, Pair, Place, Plan}
+use Rattle.vss_world.proofs.Words.{IsInPlan, IsKeptInCourse, IsOp, Kind, Line, Mark, Member, MembersBelow, Ok, Open, Pair, Place, Plan}
 use Rattle.vss_world.proofs.Words.{Said, Session, SetFails, SetOutcome, SetRow, SetsBelow, State, VssResult, Write, WriterRow, after, after_by, all_say, begun, cleared, concluded}
 use Rattle.vss_world.proofs.Words.{course_answered, course_begun, course_stepped, course_timed, covered, ending, failed_in, has_said, idle_now, in_progress, is_over_volumes}
-use Rattle.vss_world.proofs.Words.{is_running, later, left, left_from, left_now, member_if, members_from, members_of, next_member, next_volume, open_group, places, put, reverted_as, row_changed}
-use Rattle.vss_world.proofs.Words.{row_cut, row_gathered, row_settled, runs, said_of, set_loses_image, step_made, stepped_as, volumes_of, waited_for, with_cut, with_group, with_room}
-use Rattle.vss_world.proofs.Words.{with_room_if, with_volume}
+use Rattle.vss_world.proofs.Words.{is_running, later, left, left_from, left_now, member_if, members_from, members_of, next_member, next_volume, open_group, places}
+use Rattle.vss_world.proofs.Words.{row_cut, row_gathered, row_settled, runs, said_of, set_loses_image, step_made, stepped_as, volumes_of, waited_for, with_cut, with_group}
+use Rattle.vss_world.proofs.Words.{with_room_if}
 use Rattle.set_agenda.specs.Course.{failed, posted, told, worked, released}
 use Rattle.set_agenda.specs.declared.kind.Kind.TheVariants as kind
 use Rattle.vss_model.proofs.StateForm.{followed, failed as set_failed, closed, stepped, answered, ticked, write}
@@ -85,9 +85,6 @@ below_append : (n : ℕ) (vs : List ℕ) (v : ℕ) → AreBelow n vs → v < n �
 below_append n [] v h k = (k, tt)
 below_append n (x ∷ vs) v h k = (h.0, below_append n vs v h.1 k)
 
-pub sets_joined : (n k v : ℕ) (rows : List SetRow) → v < n → SetsBelow n rows → SetsBelow n (map (row_changed k (with_volume v)) rows)
-sets_joined n k v rows l h = grind (arith, sets_map, below_either, below_append)
-
 found_below : (n : ℕ) (test : SetRow → Bool) (rows : List SetRow) (r : SetRow) → find test rows ≡ Some r → SetsBelow n rows → AreBelow n r.volumes
 found_below n test [] r e h = absurd cc
 found_below n test (q ∷ rows) r e h = at_head (test q) e (λ g. found_below n test rows r g h.1)
@@ -96,12 +93,9 @@ found_below n test (q ∷ rows) r e h = at_head (test q) e (λ g. found_below n 
     at_head true g later = let same : q ≡ r = cc in subst (λ (x : SetRow). AreBelow n x.volumes) same h.0
     at_head false g later = later g
 
-set_below : (n : ℕ) (r : Option SetRow) (st : State) → in_progress st ≡ r → SetsBelow n st.sets → AreBelow n (volumes_of r)
-set_below n r st e h = grind (arith, found_below)
-
 -- the volumes of the set in progress are of the scenario
 pub volumes_below : (n : ℕ) (st : State) → SetsBelow n st.sets → AreBelow n (volumes_of (in_progress st))
-volumes_below n st h = set_below n (in_progress st) st refl h
+volumes_below n st h = grind (arith, found_below)
 
 -- ## the volume of the provider's next step
 
@@ -116,9 +110,6 @@ pub below_filter : (test : ℕ → Bool) (n : ℕ) (vs : List ℕ) → AreBelow 
 below_filter test n [] h = tt
 below_filter test n (v ∷ vs) h = below_if (test v) n v (filter test vs) h.0 (below_filter test n vs h.1)
 
-pub members_below : (n : ℕ) (a : Agenda) (g : Group) (l : Option Level) → AreBelow n a.volumes → is_over_volumes g ≡ true → AreBelow n (members_of a g l)
-members_below n a g l h e = grind arith
-
 pub next_below_with : (n : ℕ) (p : Place) (ws : List ℕ) (later : List Open) → (is_over_volumes p.group ≡ true → AreBelow n ws) → IsBelowIf n (next_volume later)
     → IsBelowIf n (next_volume (with_group p ws later))
 next_below_with n p ws later over h = grind arith
@@ -127,7 +118,7 @@ pub next_below_from : (n : ℕ) (a : Agenda) (ps : List Place) → AreBelow n a.
 next_below_from n a [] h = tt
 next_below_from n a (p ∷ ps) h =
     next_below_with n p (waited_for a p) (left_from a ps)
-    (λ e. below_filter (λ who. not (has_said a.log p who)) n (members_of a p.group p.level) (members_below n a p.group p.level h e)) (next_below_from n a ps h)
+    (λ e. below_filter (λ who. not (has_said a.log p who)) n (members_of a p.group p.level) (grind arith)) (next_below_from n a ps h)
 
 pub next_below : (s : Plan) (a : Option Agenda) → IsAgendaIn s a → IsBelowIf (length s.volumes) (next_volume (left a))
 next_below s None h = tt
@@ -168,9 +159,6 @@ in_closed s q st h = let c = in_released s st.course (course_of s st h) in recor
 unseen : (s : Plan) (st : State) (q : Option Session) (ps : List Pair) (hs : List History) (n : ℕ) → IsInPlan s st → IsInPlan s (record st { session = q; explicit = ps; volumes = hs; clock = n })
 unseen s st q ps hs n h = record { sets = h.sets; agenda = h.agenda; members = h.members; disabled = h.disabled }
 
-in_put : (s : Plan) (v : ℕ) (w : Write) (mark : Mark) (st : State) → IsInPlan s st → IsInPlan s (put v w mark st)
-in_put s v w mark st h = grind arith
-
 in_room_if : (s : Plan) (fails : Bool) (st : State) → IsInPlan s st → IsInPlan s (with_room_if fails st)
 in_room_if s true st h = in_set_failed s _ st h
 in_room_if s false st h = h
@@ -179,17 +167,12 @@ in_write : (s : Plan) (v : ℕ) (w : Write) (mark : Mark) (st : State) → IsInP
 unfolding write
 in_write s v w mark st h =
     let new = cleared s v w.block st in
-    in_put s v w mark (with_room s v w.block st) (in_room_if s (set_loses_image (in_progress st) st.volumes new.volumes) new (unseen s st st.session st.explicit new.volumes st.clock h))
-
-in_reverted : (s : Plan) (v : ℕ) (k : Kept) (mark : Mark) (st : State) → IsInPlan s st → IsInPlan s (reverted_as s v k mark st).1
-in_reverted s v k mark st h = grind arith
-
-made_sets : (s : Plan) (g : Option Group) (v : Option ℕ) (st : State) → SetsBelow (length s.volumes) st.sets → SetsBelow (length s.volumes) (step_made g v st).sets
-made_sets s g v st h = grind (arith, sets_cut)
+    grind (arith, (in_room_if s (set_loses_image (in_progress st) st.volumes new.volumes) new (unseen s st st.session st.explicit new.volumes st.clock h)))
 
 in_step : (s : Plan) (fails : Bool) (g : Option Group) (v : Option ℕ) (st : State) → IsInPlan s st → IsInPlan s (stepped_as fails g v st)
 in_step s true g v st h = in_followed s (runs st) _ st (course_stepped (IsCourseIn s) (in_course s) false st.clock st.course (course_of s st h)) h.sets
-in_step s false g v st h = in_followed s (runs st) _ (step_made g v st) (course_stepped (IsCourseIn s) (in_course s) true st.clock st.course (course_of s st h)) (made_sets s g v st h.sets)
+in_step s false g v st h = in_followed s (runs st) _ (step_made g v st) (course_stepped (IsCourseIn s) (in_course s) true st.clock st.course (course_of s st h))
+    (grind (arith, sets_cut, h.sets))
 
 in_stepped : (s : Plan) (mark : Mark) (st : State) → IsInPlan s st → IsInPlan s (stepped mark st)
 unfolding stepped
@@ -216,7 +199,7 @@ in_plan s st rows h =
     record {
       stays = λ lane op mark told e c i. h;
       writes = λ lane op v w mark e f i. in_write s v w mark st h;
-      reverts = λ lane n v k mark e f i. in_reverted s v k mark st h;
+      reverts = λ lane n v k mark e f i. grind arith;
       deletes_set = λ lane n c mark e i. unseen s st _ _ _ _ h;
       deletes_image = λ lane n v k mark e i. unseen s st _ _ _ _ h;
       ticks = λ lane n mark i. in_ticked s n st h;
@@ -225,7 +208,8 @@ in_plan s st rows h =
       gathers = λ lane q mark g i. begins_in s st kind.Gather _ [] (record st.course { rows = map row_gathered st.course.rows }) (all _) tt h.members h.disabled h.sets;
       names = λ lane w full q explicit mark g e i. unseen s st _ _ _ _ h;
       starts = λ lane q mark g e i. record { sets = sets_append (length s.volumes) st.sets _ h.sets tt; agenda = h.agenda; members = h.members; disabled = h.disabled };
-      adds = λ lane v r q mark g e f i. record { sets = sets_joined (length s.volumes) r.number v st.sets i h.sets; agenda = h.agenda; members = h.members; disabled = h.disabled };
+      adds = λ lane v r q mark g e f i.
+          record { sets = grind (arith, sets_map, below_either, below_append, h.sets); agenda = h.agenda; members = h.members; disabled = h.disabled };
       prepares = λ lane q mark g f i. begins_in s st kind.Prepare _ [] (record st.course { members = _ }) (all _) tt (all _) h.disabled h.sets;
       snapshots = λ lane q mark g f i.
           begins_in s st kind.Snapshot st.course.members _ st.course h.members (volumes_below (length s.volumes) st h.sets) h.members h.disabled h.sets;

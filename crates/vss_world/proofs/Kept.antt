@@ -34,12 +34,9 @@ not_kept (r ∷ rows) n o no_set = by_test (r.number == n) (is_complete r.result
 pub not_complete : (st : State) (n v : ℕ) → is_kept_set st n ≡ false → kept_image st n v ≡ None
 not_complete st n v e = not_kept st.sets n (point_in n (history_of st v).images) e
 
-no_point : (o : Option SetRow) → kept_of o None ≡ None
-no_point o = grind arith
-
 -- an image that does not stand is not kept
 pub not_standing : (st : State) (n v : ℕ) → is_some (point_in n (history_of st v).images) ≡ false → kept_image st n v ≡ None
-not_standing st n v e = ap (kept_of (row_of st n)) (none_is (point_in n (history_of st v).images) e) ∙ no_point (row_of st n)
+not_standing st n v e = ap (kept_of (row_of st n)) (none_is (point_in n (history_of st v).images) e) ∙ (grind arith)
 
 pub record IsRow (rows : List SetRow) (n : ℕ) : Type 0 where
   pub row : SetRow
@@ -63,9 +60,6 @@ complete_row m n (r ∷ rows) numbered is = by_test (r.number == n) (is_complete
         let rest = more h in
         record { row = rest.row; found = ap (λ (t : Bool). if t then Some r else find (λ r. r.number == n) rows) f ∙ rest.found; complete = rest.complete; number = rest.number }
 
-pub row_complete : (st : State) (n : ℕ) → NumberedFrom 1 st.sets → is_kept_set st n ≡ true → IsRow st.sets n
-row_complete st n numbered is = complete_row 1 n st.sets numbered is
-
 -- an image that is kept, with its set's row and its point
 pub record IsKept (st : State) (n v : ℕ) : Type 0 where
   pub row : SetRow
@@ -78,7 +72,7 @@ pub record IsKept (st : State) (n v : ℕ) : Type 0 where
 
 pub kept_is : (st : State) (n v : ℕ) → NumberedFrom 1 st.sets → is_kept_set st n ≡ true → is_some (point_in n (history_of st v).images) ≡ true → IsKept st n v
 kept_is st n v numbered is has =
-    let r = row_complete st n numbered is in
+    let r = complete_row 1 n st.sets numbered is in
     let p = some_is (point_in n (history_of st v).images) has in
     record {
       row = r.row;
@@ -124,9 +118,6 @@ older_complete m n (r ∷ q ∷ rows) numbered over live l = by_test (r.number =
 last_if : (t b : Bool) (i : Image) → t ≡ b → (if t then i ∷ [] else []) ≡ (if b then i ∷ [] else [])
 last_if t b i e = ap (λ (u : Bool). if u then i ∷ [] else []) e
 
-behind : (b : Bool) (i : Image) (xs ys : List Image) → i ∷ (if b then xs else ys) ≡ (if b then i ∷ xs else i ∷ ys)
-behind b i xs ys = grind arith
-
 -- whether the newest of these is kept decides it
 pub kept_by_newest : (st : State) (writes : ℕ) (images : List Image) (k : ℕ) (b : Bool) → NumberedFrom 1 st.sets → OverButNewest st.sets → AreLive st.sets images → AreInTime writes images
     → UpTo (length st.sets) images
@@ -141,15 +132,12 @@ kept_by_newest st writes (i ∷ j ∷ images) (suc k) b numbered over live times
     let old : is_kept_set st i.set ≡ true = older_complete 1 i.set st.sets numbered over live.0 (omega (arith, later, most)) in
     let rest = kept_by_newest st writes (j ∷ images) k b numbered over live.1 times.2 up.1 (omega (arith, long)) is in
     cond-true (is_kept_set st i.set) (i ∷ filter (λ i. is_kept_set st i.set) (j ∷ images)) (filter (λ i. is_kept_set st i.set) (j ∷ images)) old
-    ∙ ap (λ (xs : List Image). i ∷ xs) rest ∙ behind b i (j ∷ images) (take k (j ∷ images))
+    ∙ ap (λ (xs : List Image). i ∷ xs) rest ∙ (grind arith)
 
 sets_taken : (k : ℕ) (images : List Image) → sets_of (take k images) ≡ take k (sets_of images)
 sets_taken zero images = refl
 sets_taken (suc k) [] = refl
 sets_taken (suc k) (i ∷ images) = ap (λ (ns : List ℕ). i.set ∷ ns) (sets_taken k images)
-
-decided : (b : Bool) (images : List Image) (k : ℕ) → sets_of (if b then images else take k images) ≡ (if b then sets_of images else take k (sets_of images))
-decided b images k = grind (arith, sets_taken)
 
 pub kept_sets_are : (s : Plan) (acts : List Act) (v k : ℕ) (sets : List ℕ) (b : Bool) → sets ≡ sets_of (history_of (state s acts) v).images → k + 1 ≡ length sets
     → b ≡ is_kept_set (state s acts) (slice_index sets k) → (if b then sets else take k sets) ≡ sets_of (kept (state s acts) (history_of (state s acts) v))
@@ -160,7 +148,7 @@ kept_sets_are s acts v k sets b are long is =
     let count : length sets ≡ length images = ap length are ∙ length-map images (λ (i : Image). i.set) in
     let decides = kept_by_newest st (length (history_of st v).writes) images k b o.numbered o.newest (live_at st.sets st.volumes v o.live) (images_in_time s acts v)
     (images_up_to st.sets st.volumes v o.numbered o.live) (long ∙ count) (ap (λ (ns : List ℕ). is_kept_set st (slice_index ns k)) (sym are) ∙ sym is) in
-    ap (λ (ns : List ℕ). if b then ns else take k ns) are ∙ sym (decided b images k) ∙ ap sets_of (sym decides)
+    ap (λ (ns : List ℕ). if b then ns else take k ns) are ∙ sym (grind (arith, sets_taken)) ∙ ap sets_of (sym decides)
 
 -- where the provider has none, none is kept
 pub no_sets : (s : Plan) (acts : List Act) (v : ℕ) (sets : List ℕ) → sets ≡ sets_of (history_of (state s acts) v).images → length sets ≡ 0

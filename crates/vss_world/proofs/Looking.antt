@@ -7,11 +7,11 @@ use Rattle.vss_world.proofs.Kept.{not_complete, not_standing, kept_is, none_is, 
 use Rattle.vss_world.proofs.Moved.{world_of, in_order, OfDevices, clean_devices, failed_devices, rose_for, line_moves, volumes_parts}
 use Rattle.vss_world.proofs.Words.{Fingerprint, Ghosts, IsBlockSeen, IsFingerprint, IsReading, IsShown, IsWide, Plan, ProviderValue, kept_same, sha256, Act}
 use Rattle.vss_world.proofs.Words.{Clean, Coded, Evicted, HasImage, IfStandFor, IfStands, ImageBlock, ImageDigest, IsBlock, IsDigestSeen, IsMoved, IsOf, Keeps}
-use Rattle.vss_world.proofs.Words.{Kept, KeptSets, Line, ObjectNotFound, Op, Properties, PropertiesOf, Query, Read, SessionsValue, SetFacts, SetRow, Stands}
+use Rattle.vss_world.proofs.Words.{Kept, KeptSets, Line, ObjectNotFound, Op, Properties, PropertiesOf, Query, Read, SessionsValue, SetFacts, Stands}
 use Rattle.vss_world.proofs.Words.{State, Told, WorldValue, blocks_of, facts_of, history_at as provided_at, history_of, image_block, image_blocks, is_complete}
-use Rattle.vss_world.proofs.Words.{is_kept_set, kept, kept_image, kept_of, line, point_in, properties, row_number, row_of, sets_of, simple_outcome, state}
+use Rattle.vss_world.proofs.Words.{is_kept_set, kept, kept_image, line, point_in, properties, row_number, row_of, sets_of, simple_outcome, state}
 use Rattle.vss_world.proofs.Words.{unwrap_or, used_by, AreGroups, AreKept, BlockOf, BlocksOf, Cause, Fault, Faulted, Fits, HasCause, HasLists, History}
-use Rattle.vss_world.proofs.Words.{IsBlockTold, IsBytes, IsDigestIf, IsDigestTold, IsFirstIf, IsPointOf, Mark, RoseFor, VssResult, Write, WriterRow, concat}
+use Rattle.vss_world.proofs.Words.{IsBlockTold, IsDigestIf, IsDigestTold, IsPointOf, Mark, RoseFor, VssResult, Write, WriterRow, concat}
 use Rattle.vss_world.proofs.Words.{content, contents, counts_of, devices_of, evicted, is_fault, line_allows, line_enabled, lost, mark_of, read_as, tells_of}
 use Rattle.vss_world.proofs.Words.{tells_of-at, volume_by}
 
@@ -43,22 +43,15 @@ lent_told device s p v set b bytes f shown exact wide = (
 
 -- ## what is told fits
 
-fits_seen : (t : Bool) (o : Option Bool) (bytes first digest : List ℕ) → o ≡ Some t → (t ≡ true → IsFingerprint bytes (record { first = first; digest = digest }))
-    → IsWide (record { first = first; digest = digest }) → IsFirstIf o bytes first × IsDigestIf o bytes digest
-fits_seen t o bytes first digest is shows wide = grind arith
-
 block_fits : {D : Type 0} (blocks_told : D → Option (List (List ℕ))) (s : Plan) (p : ProviderValue D) (v : ℕ) (set : Option ℕ) (b : ℕ) (first digest : List ℕ) (st : State) (point : ℕ)
     → v < length s.volumes → AreGroups blocks_told s p.groups st.volumes → IsBlockTold blocks_told s p v set b first digest → IsPointOf set (history_of st v) point
     → Fits (tells_of blocks_told s (devices_of p.groups)) (BlockOf v (content (history_of st v).writes point b)) (told.Block first digest)
-block_fits blocks_told s p v set b first digest st point within groups seen is = grind (arith, fits_seen, tells_of-at)
-
-pub fits_digest : (t : Bool) (o : Option Bool) (bytes digest : List ℕ) → o ≡ Some t → (t ≡ true → digest ≡ sha256 bytes) → length digest ≡ 32 → IsBytes digest → IsDigestIf o bytes digest
-fits_digest t o bytes digest is shows long are = grind arith
+block_fits blocks_told s p v set b first digest st point within groups seen is = grind (arith, tells_of-at)
 
 pub digest_slot : {D : Type 0} (blocks_told : D → Option (List (List ℕ))) (s : Plan) (p : ProviderValue D) (v : ℕ) (set : Option ℕ) (digest : List ℕ) (st : State) (point : ℕ)
     → v < length s.volumes → AreGroups blocks_told s p.groups st.volumes → IsDigestTold blocks_told s p.groups v set digest → IsPointOf set (history_of st v) point
     → IsDigestIf (slice_get (tells_of blocks_told s (devices_of p.groups)) v) (concat (contents (blocks_of s v) (history_of st v).writes point)) digest
-digest_slot blocks_told s p v set digest st point within groups seen is = grind (arith, fits_digest, tells_of-at)
+digest_slot blocks_told s p v set digest st point within groups seen is = grind (arith, tells_of-at)
 
 -- ## lines that change at most the volumes
 
@@ -195,11 +188,8 @@ pub record IsOfImage (st : State) (n v : ℕ) (k : Kept) : Type 0 where
   pub complete : is_complete k.row.result ≡ true
   pub point : point_in n (history_of st v).images ≡ Some k.point
 
-image_parts : (st : State) (n v : ℕ) (o : Option SetRow) (p : Option ℕ) (k : Kept) → row_of st n ≡ o → point_in n (history_of st v).images ≡ p → kept_of o p ≡ Some k → IsOfImage st n v k
-image_parts st n v o p k e f g = grind arith
-
 pub of_image : (st : State) (n v : ℕ) (k : Kept) → kept_image st n v ≡ Some k → IsOfImage st n v k
-of_image st n v k e = image_parts st n v (row_of st n) (point_in n (history_of st v).images) k refl refl e
+of_image st n v k e = grind arith
 
 -- the provider has an image that is kept
 pub provided_point : (s : Plan) (acts : List Act) (n v : ℕ) (k : Kept) → kept_image (state s acts) n v ≡ Some k → point_in n (history_of (state s acts) v).images ≡ Some k.point
@@ -226,10 +216,6 @@ kept_if_stands {s = s} {has = has} n v is stood acts stands =
     by_answer : (b : Bool) → is_some (point_in n (history_of (state s acts) v).images) ≡ b → is_kept_set (state s acts) n ≡ true → is_some (kept_image (state s acts) n v) ≡ b
     by_answer true has complete = ap is_some (kept_is (state s acts) n v (in_order s acts).numbered complete has).is
     by_answer false has complete = ap is_some (not_standing (state s acts) n v has)
-
--- an image that does not stand is not kept
-none_stands : {D : Type 0} {told : D → Option (List (List ℕ))} {s : Plan} {w : WorldValue D} (n v : ℕ) → HasImage told s w.provider.groups v n false → IsKeptIf told w s n v false
-none_stands n v stood acts stands = grind (arith, not_complete, not_standing)
 
 -- a set of which nothing is told keeps no image
 pub without_facts : {D : Type 0} {told : D → Option (List (List ℕ))} {s : Plan} {w : WorldValue D} {facts : Option SetFacts} (n v : ℕ) → facts ≡ None
@@ -288,7 +274,7 @@ module _ {D : Type 0} (device : Ghosts D) {s : Plan} {p : ProviderValue D} {x : 
       → IsMoved device (world_of p x l e) (world_of q x l f) s (Line lane op) (simple_outcome (told.Result ObjectNotFound))
   absent_moves {lane = lane} {n = n} {v = v} {op = op} on has same =
       subst (λ (z : ProviderValue D). IsMoved device (world_of p x l e) (world_of z x l f) s (Line lane op) (simple_outcome (told.Result ObjectNotFound))) (sym same)
-      (not_kept_moves on (none_stands n v has) refl)
+      (not_kept_moves on (grind (arith, not_complete, not_standing)) refl)
 
   pub image_moves : {lane n v b : ℕ} {c : Bool} {answer : Told} {q : ProviderValue D} → IsBlock s v b → IsKeptIf device.told (world_of p x l e) s n v c → c ≡ true
       → IsBlockSeen device s p q v (Some n) b answer

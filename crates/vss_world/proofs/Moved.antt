@@ -1,9 +1,9 @@
 -- A move, from what it does to the devices and what it comes to at each state.
-use Rattle.std.proofs.Common.{◌≡◌, ℕ, ◌+◌, ◌≤◌, List, [], ◌∷◌, ◌++◌, length, refl, sym, ◌∙◌, subst, arith, Bool, true, false, Option, map, Some, ap, None}
+use Rattle.std.proofs.Common.{◌≡◌, ℕ, ◌+◌, ◌≤◌, List, [], ◌∷◌, length, refl, sym, ◌∙◌, subst, arith, Bool, true, false, Option, map, Some, ap, None}
 use Rattle.vss_world.proofs.Words.{Act, AreGroups, AreKept, Cause, Event, Evicted, Ghosts, GroupValue, HasCause, IsInOrder, IsMoved, IsOf, IsOutcome}
 use Rattle.vss_world.proofs.Words.{IsPrepared, Leaves, Outcome, Plan, ProviderValue, RoseFor, SessionsValue, Stands, StandsAt, State, WorldValue, WriterRow}
 use Rattle.vss_world.proofs.Words.{after, counts_of, devices_of, enabled, event_allows, is_fault, later_by, later_same, length-append, mark_of, orderly, state}
-use Rattle.vss_world.proofs.Words.{state-append, tells_of, told_act, true_not_false, volume_of, Fits, HasLists, History, IsInPlan, Keeps, Line, Mark}
+use Rattle.vss_world.proofs.Words.{state-append, tells_of, told_act, true_not_false, volume_of, Fits, HasLists, History, Line, Mark}
 use Rattle.vss_world.proofs.Words.{NumberedFrom, Op, Told, act_of, evicted, happens, line, line_allows, line_enabled, lost, new-is, none_ends, simple_outcome}
 use Rattle.vss_world.specs.Words.{IsOf as IsSessionsOf}
 use Rattle.provider.proofs.Words.{AreLater}
@@ -101,9 +101,6 @@ pub record Comes {D : Type 0} (told : D → Option (List (List ℕ))) (s : Plan)
   pub outcome : (rows : List WriterRow) → rows ≡ (after s st (told_act event o.told)).course.rows → IsOutcome tells s st event o listed_sets evicted_images rows
   pub parts : StandsAt told q y s (after s st (told_act event o.told))
 
-one_more : (acts : List Act) (act : Act) → length (acts ++ act ∷ []) ≡ length acts + 1
-one_more acts act = length-append acts (act ∷ [])
-
 pub moved : {D : Type 0} (device : Ghosts D) (s : Plan) (event : Event) (o : Outcome) (p q : ProviderValue D) (x y : SessionsValue) (l k : List ℕ)
     (e f : List Evicted)
     → OfDevices device s event o (world_of p x l e) (world_of q y k f) → Goes x y → ((acts : List Act) → Stands device.told (world_of p x l e) s acts
@@ -116,7 +113,7 @@ moved device s event o p q x y l k e f devices goes comes = record {
   stands_for = λ acts stands.
       let c = comes acts stands in
       let more = state-append s acts (told_act event o.told) in
-      let long = one_more acts (told_act event o.told) in
+      let long = length-append acts ((told_act event o.told) ∷ []) in
       let sets = stands.sets in
       let posts = stands.posts in
       let early = stands.early in
@@ -194,10 +191,6 @@ line_moves device s lane op answer p q x l k e f devices comes =
 
 -- ## the parts, where at most the volumes change
 
-pub with_volumes : {D : Type 0} (told : D → Option (List (List ℕ))) (q : ProviderValue D) (x : SessionsValue) (s : Plan) (st : State) (hs : List History) → Keeps x st → IsInPlan s st → IsPrepared q st
-    → AreGroups told s q.groups hs → StandsAt told q x s (record st { volumes = hs })
-with_volumes told q x s st hs k plan d groups = grind arith
-
 pub volumes_parts : {D : Type 0} (told : D → Option (List (List ℕ))) (p q : ProviderValue D) (x : SessionsValue) (s : Plan) (st : State) (hs : List History) → StandsAt told p x s st
     → q ≡ record p { groups = q.groups } → AreGroups told s q.groups hs → StandsAt told q x s (record st { volumes = hs })
-volumes_parts told p q x s st hs parts same groups = with_volumes told q x s st hs parts.sessions parts.plan (prepared_same p q st same parts.prepared) groups
+volumes_parts told p q x s st hs parts same groups = grind (arith, parts.sessions, parts.plan, (prepared_same p q st same parts.prepared))

@@ -7,7 +7,7 @@ use Rattle.vss_world.proofs.Words.{counts_of, change_at, cut as history_cut, dev
 use Rattle.vss_world.proofs.Words.{image_runs, images_after, in_progress, is_live, is_running, is_snapshot, kept_same, kept_trans, nat_tests, none_over}
 use Rattle.vss_world.proofs.Words.{number_prepared, orderly, plain, point_in, state, true_not_false, volumes_of, without_images, without_set}
 use Rattle.vss_world.proofs.Kept.{none_from}
-use Rattle.vss_world.proofs.SetGoesOn.{skip, GoesOn, StaysOn, IsOver, IsOverIf, IsSameSet, runs_snapshot}
+use Rattle.vss_world.proofs.SetGoesOn.{skip, GoesOn, IsOver, IsOverIf, IsSameSet, runs_snapshot}
 
 -- ## where nothing changes
 
@@ -19,9 +19,6 @@ prepared_none p st volumes set none = grind arith
 
 pub volumes_same : (o p : Option SetRow) → IsSameSet o p → volumes_of o ≡ volumes_of p
 volumes_same o p same = grind arith
-
-pub prepared_stays : {D : Type 0} (p : ProviderValue D) (st next : State) → StaysOn st.course.agenda next.course.agenda (in_progress st) (in_progress next) → IsPrepared p st → IsPrepared p next
-prepared_stays p st next stays h = grind arith
 
 -- ## images of no set
 
@@ -135,14 +132,8 @@ module _ {D : Type 0} (device : Ghosts D) (s : Plan) (p : ProviderValue D) (st n
   abbrev Comes : SetOutcome → ℕ → ProviderValue D → Type 0
   Comes result n q = IsPrepared q next × AreGroups device.told s q.groups (without_images (failed_set result n) made)
 
-  zero_ends : (x : Option SetRow) (result : SetOutcome) → EndsAs x 0 result → x ≡ None
-  zero_ends x result h = grind arith
-
-  none_ends_here : (o : Option SetRow) → in_progress st ≡ o → IsOverIf o next.sets → ended_of o next.sets ≡ None → o ≡ None
-  none_ends_here o e over none = grind arith
-
   nothing_ends : (result : SetOutcome) (q : ProviderValue D) → q ≡ p → EndsAs (ended_of (in_progress st) next.sets) 0 result → Comes result 0 q
-  nothing_ends result q same ends = grind (arith, none_ends_here, zero_ends, prepared_stays, prepared_none, zero_dropped)
+  nothing_ends result q same ends = grind (arith, prepared_none, zero_dropped)
 
   -- a set that ends is not in progress any more
   gone_from : (n : ℕ) (result : SetOutcome) (o : Option SetRow) → in_progress st ≡ o → EndsAs (ended_of o next.sets) (suc n) result → EndsHere st next n result
@@ -199,25 +190,16 @@ pub record IsUnended {D : Type 0} (told : D → Option (List (List ℕ))) (s : P
   pub groups : AreGroups told s q.groups hs
 
 module _ {D : Type 0} (device : Ghosts D) (s : Plan) (p : ProviderValue D) (made : List History) (above : NoneOfZero made) (groups : AreGroups device.told s p.groups made) where
-  fails_none : (n : ℕ) (result : SetOutcome) → n ≡ 0 → AreGroups device.told s p.groups (without_images (failed_set result n) made)
-  fails_none n result e = grind (arith, zero_dropped)
-
-  ends_nothing : (n : ℕ) (result : SetOutcome) (q : ProviderValue D) → n ≡ 0 → IsEnded device n result p q → q ≡ p
-  ends_nothing n result q e h = grind arith
-
   releases : (o : Option ℕ) (q : ProviderValue D) (hs : List History) → IsReleased device o p q → AreGroups device.told s p.groups hs → IsUnended device.told s p q (without_images o hs)
   releases None q hs h stand = subst (λ (z : ProviderValue D). IsUnended device.told s p z hs) (sym h) (record { volumes = refl; set = refl; groups = stand })
   releases (Some n) q hs h stand = record { volumes = ap (λ (z : ProviderValue D). z.volumes) h.2; set = ap (λ (z : ProviderValue D). z.set) h.2; groups = h.1.stands s hs stand }
 
   pub unended : (next : State) (m : SessionMove) (q : ProviderValue D) → IsSettled device m p q → m.outcome.set ≡ 0 → next.volumes ≡ images_after m made → IsUnended device.told s p q next.volumes
   unended next m q h none volumes =
-      let same : h.0 ≡ p = ends_nothing m.outcome.set m.outcome.result h.0 none h.1 in
+      let same : h.0 ≡ p = grind (arith, h.1) in
       subst (IsUnended device.told s p q) (sym volumes)
       (releases m.released q (without_images (failed_set m.outcome.result m.outcome.set) made) (subst (λ (z : ProviderValue D). IsReleased device m.released z q) same h.2)
-      (fails_none m.outcome.set m.outcome.result none))
-
-pub none_ended : (x : Option SetRow) (n : ℕ) (result : SetOutcome) → x ≡ None → EndsAs x n result → n ≡ 0
-none_ended x n result e h = grind arith
+      (grind (arith, zero_dropped)))
 
 -- ## the devices stay
 

@@ -1,7 +1,7 @@
 -- A write, against the acts: the images that it needs gone, and the set in progress that fails where its own goes.
-use Rattle.std.proofs.Common.{◌≡◌, ℕ, zero, suc, ◌<◌, ◌≤◌, ◌==◌, List, [], ◌∷◌, length, refl, ap, sym, ◌∙◌, subst, arith, Bool, true, false, Option, Some, None}
+use Rattle.std.proofs.Common.{◌≡◌, ℕ, zero, suc, ◌<◌, ◌≤◌, List, [], ◌∷◌, length, refl, ap, sym, ◌∙◌, subst, arith, Bool, true, false, Option, Some, None}
 use Rattle.std.proofs.Common.{filter, map, slice_get}
-use Rattle.std.specs.Prelude.{option_map, is_some, not, ◌&&◌, ◌||◌, if◌then◌else◌, Result, Ok, Err}
+use Rattle.std.specs.Prelude.{option_map, is_some, not, ◌&&◌, ◌||◌, Result, Ok, Err}
 use Rattle.vss_model.specs.Words.{Act, EndsAs, Evicted, Failed, Fits, HasLists, History, Image, InsufficientStorage, IsBlock, Mark, Op, Placed, Plan, Reply}
 use Rattle.vss_model.specs.Words.{Running, SetOutcome, SetRow, State, Write, WriterRow, act_of, after, change_at, dropped, ended_of, evicted, evicted_for}
 use Rattle.vss_model.specs.Words.{reply, going_up_to, gone_up_to, group_of, has_image, has_lost_image, history_in, in_progress, is_kept_set, is_running, left_now}
@@ -16,9 +16,8 @@ use Rattle.vss_model.proofs.Words.{UpTo, image_runs, images_up_to, new-is, newes
 use Rattle.provider.proofs.Kept.{kept_same, kept_trans}
 use Rattle.provider.proofs.Words.{AreGroups, AreKept, AreWithout, HasCause, IsLastSet, IsPut, ProviderValue, counts_of, devices_of, fault_of, images_going}
 use Rattle.provider.proofs.Words.{number_is as own_number, put_if, slice_get_inside, slice_get_map}
-use Rattle.vss_world.proofs.Words.{IfStands, IsBlocked, IsInPlan, IsMoved, IsOf, IsPrepared, IsWriteBy, IsWriteLine, MakesRoom, RoseFor, Stands, StandsAt}
+use Rattle.vss_world.proofs.Words.{IfStands, IsBlocked, IsInPlan, IsMoved, IsOf, IsPrepared, IsWriteLine, MakesRoom, RoseFor, Stands, StandsAt}
 use Rattle.vss_world.proofs.Words.{WorldValue, current_kept, no_row as none_current, number_prepared, simple_outcome, tells_of, told_if, volume_by}
-use Rattle.scenario.specs.declared.line.Line.{Line as Does}
 use Rattle.vss_world.proofs.Moved.{world_of, OfDevices, Comes, goes_on, leaves_of, in_order, moved, clean_devices, failed_devices, rose_for, LineComes}
 use Rattle.vss_world.proofs.Moved.{line_moves, after_line}
 use Rattle.vss_world.proofs.InPlan.{in_failed_in}
@@ -32,15 +31,9 @@ all_of : (n : ℕ) (hs : List History) → ((v : ℕ) → UpTo n (history_in (sl
 all_of n [] h = tt
 all_of n (x ∷ hs) h = (h 0, all_of n hs (λ v. h (suc v)))
 
-all_up : (s : Plan) (acts : List Act) → AllUpTo (length (state s acts).sets) (state s acts).volumes
-all_up s acts = let o = orderly s acts in all_of _ _ (λ v. images_up_to (state s acts).sets (state s acts).volumes v o.numbered o.live)
-
-in_if : (b : Bool) (n m p : ℕ) (s : ℕ) (o : Option ℕ) → (s == n) ≡ b → s ≤ m → is_some (if b then Some p else o) ≡ true → (is_some o ≡ true → n ≤ m) → n ≤ m
-in_if b n m p s o e l h f = grind arith
-
 in_up_to : (n m : ℕ) (images : List Image) → UpTo m images → is_some (point_in n images) ≡ true → n ≤ m
 in_up_to n m [] up h = absurd cc
-in_up_to n m (i ∷ images) up h = in_if (i.set == n) n m i.point i.set (point_in n images) refl up.0 h (in_up_to n m images up.1)
+in_up_to n m (i ∷ images) up h = grind (arith, up.0, (in_up_to n m images up.1))
 
 -- no image is of a later set
 last_set : (s : Plan) (acts : List Act) → IsLastSet (length (state s acts).sets) (state s acts).volumes
@@ -60,11 +53,8 @@ pub record IsWriting (s : Plan) (lane : ℕ) (op : Op) (v : ℕ) (w : Write) : T
   pub nobody : (st : State) → lost st (Line lane op) ≡ []
   pub of_volume : volume_by (line_of op) ≡ Some v
 
-writing_by : (s : Plan) (lane : ℕ) (op : Op) (l : Does) (v : ℕ) (w : Write) → line_of op ≡ l → IsWriteBy l v w → IsWriting s lane op v w
-writing_by s lane op l v w is h = grind arith
-
 pub writing : (s : Plan) (lane : ℕ) (op : Op) (v : ℕ) (w : Write) → IsWriteLine op v w → IsWriting s lane op v w
-writing s lane op v w h = writing_by s lane op (line_of op) v w refl h
+writing s lane op v w h = grind arith
 
 said_fits : (tells : List Bool) (done : Result Unit Cause) → Fits tells (reply_of_mark (mark_of (told_if done))) (told_if done)
 said_fits tells done = grind arith
@@ -243,7 +233,8 @@ module _ {D : Type 0} {device : Ghosts D} {s : Plan} {lane : ℕ} {op : Op} {v :
       let far_all : going_up_to s v w.block st ≡ all = sym far ∙ same ∙ number in
       let some = some_rows (λ q. is_running q.result) st.sets a c in
       let lost_image : has_lost_image all st.volumes (gone_up_to all (group_of s v) st.volumes) ≡ true =
-      lost_at all (slots_of s v) v w.block (group_of s v) st.volumes (placed row.0.group row.0) some at (own_number row.0.group) (all_up s acts) far_all in
+      lost_at all (slots_of s v) v w.block (group_of s v) st.volumes (placed row.0.group row.0) some at (own_number row.0.group)
+      (let o = orderly s acts in all_of _ _ (λ v. images_up_to (state s acts).sets (state s acts).volumes v o.numbered o.live)) far_all in
       ap (λ (n : ℕ). has_lost_image n st.volumes base.volumes) number ∙ ap (λ (k : ℕ). has_lost_image all st.volumes (gone_up_to k (group_of s v) st.volumes)) far_all ∙ lost_image
 
   -- the image of the set in progress went, and the set failed

@@ -18,9 +18,6 @@ record IsWriterAt (s : Plan) (k : ℕ) (span : Span) : Type 0 where
 writer_at : (s : Plan) (k : ℕ) (span : Span) (found : Option WriterPlan) → slice_get s.writers k ≡ found → option_map (λ (w : WriterPlan). w.name) found ≡ Some span → IsWriterAt s k span
 writer_at s k span found at e = grind arith
 
-meta_at : (found : Option WriterPlan) (w : WriterPlan) (m : Meta) → found ≡ Some w → option_map (λ (x : WriterPlan). x.meta) found ≡ Some m → m ≡ w.meta
-meta_at found w m at e = let same : Some m ≡ Some w.meta = sym e ∙ ap (option_map (λ (x : WriterPlan). x.meta)) at in cc
-
 -- ## no two have one name
 
 swapped : (a b : List ℕ) → bytes_eq a b ≡ false → bytes_eq b a ≡ false
@@ -66,7 +63,8 @@ pub registers : (s : Plan) (k : ℕ) (old new : CoordinatorState) (span : Span) 
     → writer_count new ≡ writer_count old + 1 → ((now : ℕ) → IsOnTime now old → IsOnTime now new) → new.posts ≡ old.posts → HasRegistered s (k + 1) new
 registers s k old new span name found given before e meta copied is stands writers count times posts =
     let w = writer_at s k span (slice_get s.writers k) refl e in
-    let same : meta_of given ≡ w.writer.meta = copied ∙ meta_at (slice_get s.writers k) w.writer (meta_of found) w.at meta in
+    let same : meta_of given ≡ w.writer.meta = copied
+    ∙ (let same : Some (meta_of found) ≡ Some w.writer.meta = sym meta ∙ ap (option_map (λ (x : WriterPlan). x.meta)) w.at in cc) in
     let row : first_row given.level given.freeze_timeout ≡ row_of_writer w.writer = ap (λ (m : Meta). first_row m.level m.freeze_timeout) same in
     let rows : map row_of_writer (take k s.writers) ++ first_row given.level given.freeze_timeout ∷ [] ≡ map row_of_writer (take (k + 1) s.writers) =
     ap (λ (r : WriterRow). map row_of_writer (take k s.writers) ++ r ∷ []) row ∙ sym (more row_of_writer s.writers k w.writer w.at) in

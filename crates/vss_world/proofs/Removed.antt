@@ -3,10 +3,10 @@ use Rattle.std.proofs.Common.{◌≡◌, ℕ, ◌<◌, ◌≤◌, List, [], leng
 use Rattle.std.proofs.Common.{option_map, if◌then◌else◌, Ok, Err}
 use Rattle.vss_world.proofs.Words.{Act, AreGroups, AreWithout, Cause, Clean, DeleteImage, DeleteSet, Deleted, Evicted, FaultAfter, FaultedAfter, Fine, Ghosts}
 use Rattle.vss_world.proofs.Words.{GroupValue, HasGroups, History, IsDropped, IsMoved, IsOf, IsPlan, IsRevert, Keeps, Kept, Line, Mark, ObjectNotFound, Plan}
-use Rattle.vss_world.proofs.Words.{ProviderValue, Revert, SessionsValue, SetFacts, SetRow, SnapshotSetInProgress, Stands, State, UnsupportedContext, VssResult}
+use Rattle.vss_world.proofs.Words.{ProviderValue, Revert, SessionsValue, SetFacts, SnapshotSetInProgress, Stands, State, UnsupportedContext, VssResult}
 use Rattle.vss_world.proofs.Words.{blocks_of, change_at, count_images, count_within as few_images, delete_kept, dropped, facts_of, history_of, is_among}
-use Rattle.vss_world.proofs.Words.{is_backup, is_in_set, is_kept_set, kept_image, lt-ltb, may_stop_after, point_in, refused, revert_refusal, revert_to}
-use Rattle.vss_world.proofs.Words.{reverted, reverted_in_part, row_number, row_of, simple_outcome, state, to_restore, volumes_of}
+use Rattle.vss_world.proofs.Words.{is_backup, is_kept_set, kept_image, lt-ltb, may_stop_after, point_in, refused, revert_refusal, revert_to}
+use Rattle.vss_world.proofs.Words.{reverted, reverted_in_part, row_number, row_of, simple_outcome, state, to_restore}
 use Rattle.provider.specs.Words.{Fault}
 use Rattle.vss_model.specs.declared.told.Told.TheVariants as told
 use Rattle.vss_model.proofs.StateForm.{delete_set, delete_image, revert}
@@ -48,13 +48,6 @@ revert_is s n v mark st o why e f = grind arith
 
 pub revert_line : {s : Plan} {lane n v : ℕ} → IsOnImage s lane n v (Revert n v)
 revert_line = grind (arith, revert_is)
-
--- the facts are those of the image's row
-row_facts : (st : State) (x : SessionsValue) (n : ℕ) (facts : SetFacts) (r : SetRow) → Some facts ≡ option_map facts_of (row_of st n) → row_of st n ≡ Some r → facts.context ≡ r.context
-row_facts st x n facts r e f = grind arith
-
-in_set_is : (v : ℕ) (o : Option SetRow) → is_in_set v o ≡ is_among v (volumes_of o)
-in_set_is v o = grind arith
 
 -- why a revert to a kept image is refused: whether its set has writers, and whether the volume is in the set in progress
 abbrev refusal_if : Bool → Bool → Option VssResult
@@ -133,7 +126,7 @@ module _ {D : Type 0} (device : Ghosts D) {s : Plan} {p : ProviderValue D} {x : 
       (is : (st : State) → Keeps x st → Some facts ≡ option_map facts_of (row_of st n))
       (backup preparing : Bool) (has_writers : is_backup facts.context ≡ backup) (within : is_among v p.volumes ≡ preparing) where
     there : (acts : List Act) → Stands device.told (world_of p x l e) s acts → There n v backup preparing (state s acts)
-    there acts stands = grind (arith, some_is, of_image, row_facts, in_set_is, row_number, provided_point)
+    there acts stands = grind (arith, some_is, of_image, row_number, provided_point)
 
     pub revert_refused : {lane : ℕ} (why : VssResult) → refusal_if backup preparing ≡ Some why
         → IsMoved device (world_of p x l e) (world_of p x l f) s (Line lane (Revert n v)) (simple_outcome (told.Result why))

@@ -3,9 +3,9 @@
 use Rattle.std.proofs.Common.{◌≡◌, ℕ, ◌==◌, List, [], ◌∷◌, refl, ap, sym, ◌∙◌, subst, Bool, true, false, Option, Some, None, ◌⊎◌, inl, inr, map, find, is_some}
 use Rattle.std.proofs.Common.{not, ◌&&◌, ◌||◌, arith}
 use Rattle.vss_world.proofs.Words.{Agenda, Call, Course, Cut, Ending, Failed, Gather, Group, IsCall, Kind, Member, NumberedFrom, Prepare, Running, SetOutcome}
-use Rattle.vss_world.proofs.Words.{SetRow, Settles, Snapshot, State, VssResult, all_say, concluded, cut_set, ended_of, ending, ending_idle, ending_on}
-use Rattle.vss_world.proofs.Words.{ends_settle, failed, failed_in, find-row_cut, find-settled_over, find-settled_running, groups_left, has_failed, has_said}
-use Rattle.vss_world.proofs.Words.{in_progress, is_done, is_running, is_snapshot, image_made, waited_for, both_ways, all_said, none_after, number-cut}
+use Rattle.vss_world.proofs.Words.{SetRow, Settles, Snapshot, State, VssResult, all_say, concluded, ended_of, ending, ending_idle, ending_on}
+use Rattle.vss_world.proofs.Words.{ends_settle, failed, failed_in, find-row_cut, find-settled_over, find-settled_running, groups_left, has_said}
+use Rattle.vss_world.proofs.Words.{in_progress, is_done, is_running, is_snapshot, image_made, both_ways, all_said, none_after, number-cut}
 use Rattle.vss_world.proofs.Words.{outcome_after, plain, row_settled, runs, settled_row, step_made, unspoken, volumes-row_cut_if, volumes_of}
 use Rattle.set_agenda.specs.declared.kind.Kind.TheVariants.{Complete}
 use Rattle.set_agenda.specs.Course.{begun, posted, settled, failed as course_failed}
@@ -16,12 +16,8 @@ use Rattle.vss_model.proofs.StateForm.{followed}
 pub skip : (t u b : Bool) → t ≡ false → ((t && u) || b) ≡ b
 skip t u b e = grind arith
 
--- a snapshot's agenda is not over before its Cut step is made
-cut_waited : (a : Agenda) → a.kind ≡ Snapshot → is_done (groups_left a) ≡ true → waited_for a (plain Cut) ≡ []
-cut_waited a kind done = grind arith
-
 never_done : (a : Agenda) → a.kind ≡ Snapshot → has_said a.log (plain Cut) 0 ≡ false → is_done (groups_left a) ≡ true → ⊥
-never_done a kind none done = both_ways (has_said a.log (plain Cut) 0) none (all_said a.log (plain Cut) (0 ∷ []) 0 (cut_waited a kind done) refl)
+never_done a kind none done = both_ways (has_said a.log (plain Cut) 0) none (all_said a.log (plain Cut) (0 ∷ []) 0 (grind arith) refl)
 
 -- ## a set that fails
 
@@ -79,9 +75,6 @@ goes_nowhere st = inl (record { set = same_set (in_progress st); snapshot = refl
 
 -- ## a set that ends
 
-none_over : (st next : State) → in_progress st ≡ None → in_progress next ≡ None → GoesOn st next
-none_over st next e f = inr (record { none = f; over = subst (λ (o : Option SetRow). IsOverIf o next.sets) (sym e) tt })
-
 -- the row of the set in progress has its end
 settled_over : (st : State) (result : SetOutcome) (rows : List SetRow) → NumberedFrom 1 st.sets → is_running result ≡ false → rows ≡ map (row_settled result) st.sets → IsOverIf (in_progress st) rows
 settled_over st result rows numbered over is = by_set (in_progress st) refl
@@ -91,9 +84,6 @@ settled_over st result rows numbered over is = by_set (in_progress st) refl
     by_set (Some r) e = record { row = record r { result = result }; over = over; number = refl; ended = ap (ended_of (Some r)) is ∙ settled_row 1 result over st.sets r numbered e }
 
 -- ## a call of the course
-
-not_running : (o : SetOutcome) → has_failed o ≡ true → is_running o ≡ false
-not_running o e = grind arith
 
 -- in a state whose set in progress is that of its snapshot agenda, and has no outcome yet
 pub record IsOfAgenda (st : State) : Type 0 where
@@ -109,24 +99,18 @@ module _ (c : Course) (st : State) (of : IsOfAgenda st) where
   over_none : (o : SetOutcome) → is_running c.outcome ≡ false → in_progress (concluded (ending o c.outcome true None) next) ≡ None
   over_none o e = ends_settle o c.outcome next ∙ find-settled_over c.outcome e st.sets
 
-  sets_settled : (o p : SetOutcome) → (concluded (ending o p true None) next).sets ≡ map (row_settled c.outcome) st.sets
-  sets_settled o p = grind arith
-
   ends_over : is_running c.outcome ≡ false → GoesOn st (concluded (ending st.course.outcome c.outcome true None) next)
-  ends_over e = grind (arith, over_none, settled_over, sets_settled)
-
-  agenda_same : (e : Ending) → (concluded e next).course.agenda ≡ c.agenda
-  agenda_same e = grind arith
+  ends_over e = grind (arith, over_none, settled_over)
 
   abbrev ends : Ending
   ends = ending st.course.outcome c.outcome true None
 
   agenda_then : c.agenda ≡ None → (concluded ends next).course.agenda ≡ None
-  agenda_then e = agenda_same ends ∙ e
+  agenda_then e = (grind arith) ∙ e
 
   -- an agenda that is no snapshot's is over
   plain_goes : (o : Option SetRow) → in_progress st ≡ o → runs_snapshot st.course.agenda ≡ false → c.agenda ≡ None → c.outcome ≡ st.course.outcome → GoesOn st (concluded ends next)
-  plain_goes o found plain none is = grind (arith, none_over, ends_settle, find-settled_over, find-settled_running, agenda_then)
+  plain_goes o found plain none is = grind (arith, ends_settle, find-settled_over, find-settled_running, agenda_then)
 
   -- the agenda goes on as this one, or ends where no group is left of it
   settled_goes : (a x : Agenda) (done : Bool) (b : Option Agenda) → st.course.agenda ≡ Some a → c.agenda ≡ b → x.kind ≡ a.kind → Settles done x st.course.outcome b c.outcome
@@ -156,7 +140,7 @@ module _ (c : Course) (st : State) (of : IsOfAgenda st) where
         snapshot = ap runs_snapshot (is ∙ sym runs);
       }))
   call_goes None (Some b) runs is call = cc
-  call_goes (Some a) None runs is (inl stops) = ends_over (not_running c.outcome stops.failed)
+  call_goes (Some a) None runs is (inl stops) = ends_over (grind (arith, stops.failed))
   call_goes (Some a) (Some b) runs is (inl stops) = cc
   call_goes (Some a) b runs is (inr (inl rests)) = settled_goes a a rests.done b runs is refl rests.settles
   call_goes (Some a) b runs is (inr (inr says)) = settled_goes a (all_say says.said says.now says.ws a) _ b runs is refl says.settles
@@ -181,19 +165,12 @@ failed_goes why st numbered = grind (arith, goes_nowhere, none_after, settled_ov
 
 -- ## a step of the provider, before what follows
 
-cut_same : (o : Option SetRow) (st : State) → in_progress st ≡ o → IsSameSet (in_progress st) (in_progress (cut_set o st))
-cut_same o st e = grind (arith, same_set, find-row_cut, number-cut, volumes-row_cut_if)
-
 image_same : (o : Option SetRow) (v : Option ℕ) (st : State) → IsSameSet (in_progress st) (in_progress (image_made o v st))
 image_same (Some r) (Some v) st = same_set (in_progress st)
 image_same _ _ st = same_set (in_progress st)
 
 pub step_same : (g : Group) (v : Option ℕ) (st : State) → IsSameSet (in_progress st) (in_progress (step_made (Some g) v st))
-step_same g v st = grind (arith, cut_same, image_same, same_set)
-
--- what follows of a state with the same set and agenda
-pub goes_from : (st x next : State) → x.course ≡ st.course → IsSameSet (in_progress st) (in_progress x) → GoesOn x next → GoesOn st next
-goes_from st x next course same h = grind arith
+step_same g v st = grind (arith, image_same, same_set, find-row_cut, number-cut, volumes-row_cut_if)
 
 -- ## an agenda begins
 

@@ -1,17 +1,17 @@
 -- A step of the provider, made or failed: its set and its volume, what it comes to, and that a Commit step can cut its image.
 use Rattle.std.proofs.Common.{◌≡◌, ℕ, ◌<◌, List, length, arith, Option, Some, IfSome, [], ◌∷◌, ◌++◌, refl, ap, sym, ◌∙◌, subst, Bool, true, false, ◌&&◌, None}
-use Rattle.std.proofs.Common.{inl, map, not, is_ok, OnOk, Result, Ok, Err, slice_get, ◌≤◌, ◌==◌, All, is_some, if◌then◌else◌}
+use Rattle.std.proofs.Common.{inl, map, not, is_ok, OnOk, Result, Ok, Err, slice_get, ◌==◌, All, is_some, if◌then◌else◌}
 use Rattle.writer_state.specs.declared.said.Said.TheVariants as said
 use Rattle.set_agenda.specs.Course.{posted, settled, worked}
 use Rattle.vss_model.specs.declared.told.Told.TheVariants as told
 use Rattle.vss_model.proofs.Changes.{made_are}
 use Rattle.vss_model.proofs.StateForm.{stepped}
 use Rattle.vss_world.proofs.Following.{at_of, course_of, set_move, ends_of, session_comes, has_snapshot_set, agenda_volumes}
-use Rattle.vss_world.proofs.InPlan.{IsBelowIf, next_below}
+use Rattle.vss_world.proofs.InPlan.{next_below}
 use Rattle.vss_world.proofs.Moved.{world_of, IsProviderAt, clean_devices, failed_devices, goes_on, leaves_of}
 use Rattle.vss_world.proofs.Prepared.{volumes_same, IsSetMove, NoneOfZero, none_of_zero, image_above, prepared_same, settled_comes, settled_keeps}
 use Rattle.vss_world.proofs.Putting.{some_current}
-use Rattle.vss_world.proofs.SetGoesOn.{GoesOn, IsOfAgenda, runs_snapshot, followed_goes, stepped_goes, goes_from, step_same, failed_course}
+use Rattle.vss_world.proofs.SetGoesOn.{GoesOn, IsOfAgenda, runs_snapshot, followed_goes, stepped_goes, step_same, failed_course}
 use Rattle.vss_world.proofs.Words.{Act, Evicted, IsInPlan, Plan, ProviderValue, SessionsValue, SetRow, Stands, State, current_kept, current_of, found_above}
 use Rattle.vss_world.proofs.Words.{in_progress, left_now, next_volume, orderly, state, Agenda, AreGroups, AreKept, Call, Cause, Clean, Course, Fault, Flush}
 use Rattle.vss_world.proofs.Words.{Ghosts, Group, HasStepCause, History, IfStandFor, IfStands, IsAt, IsMove, IsMoved, IsNextStep, IsOf, IsPrepared, IsSettled}
@@ -37,11 +37,8 @@ set_above blocks_told s p x l e acts stands n is = grind (arith, some_current, c
 
 -- ## its volume
 
-below_some : (n : ℕ) (o : Option ℕ) → IsBelowIf n o → IfSome o (λ v. v < n)
-below_some n o h = grind arith
-
 pub volume_within : (s : Plan) (st : State) (volume : Option ℕ) (n : ℕ) → IsInPlan s st → n ≡ length s.volumes → next_volume (left_now st) ≡ volume → IfSome volume (λ v. v < n)
-volume_within s st volume n plan long is = grind (arith, below_some, next_below)
+volume_within s st volume n plan long is = grind (arith, next_below)
 
 -- ## A step of the provider, made or failed: what it comes to.
 
@@ -90,26 +87,19 @@ pub record IsStepping (s : Plan) (acts : List Act) (g : Group) (volume : Option 
   pub opens : open_group (groups_left agenda) ≡ Some g
   pub next : next_volume (groups_left agenda) ≡ volume
 
--- what the provider does to the volumes is what the step makes
-image_taken : (n : ℕ) (volume : Option ℕ) (o : Option SetRow) (r : SetRow) (st : State) → o ≡ Some r → n ≡ r.number → step_taken Commit n volume st.volumes ≡ (image_made o volume st).volumes
-image_taken n volume o r st e f = grind arith
-
 cut_volumes : (o : Option SetRow) (st : State) → (cut_set o st).volumes ≡ st.volumes
 cut_volumes o st = grind arith
 
 taken : (g : Group) (n : ℕ) (volume : Option ℕ) (r : SetRow) (st : State) → in_progress st ≡ Some r → n ≡ r.number → step_taken g n volume st.volumes ≡ (step_made (Some g) volume st).volumes
-taken g n volume r st e f = grind (arith, image_taken, cut_volumes)
+taken g n volume r st e f = grind (arith, cut_volumes)
 
 -- ## what becomes of the set
-
-cut_numbered : (o : Option SetRow) (st : State) → NumberedFrom 1 st.sets → NumberedFrom 1 (cut_set o st).sets
-cut_numbered o st h = grind (arith, numbered-map, number-cut)
 
 image_numbered : (o : Option SetRow) (v : Option ℕ) (st : State) → NumberedFrom 1 st.sets → NumberedFrom 1 (image_made o v st).sets
 image_numbered o v st h = grind arith
 
 step_numbered : (g : Group) (v : Option ℕ) (st : State) → NumberedFrom 1 st.sets → NumberedFrom 1 (step_made (Some g) v st).sets
-step_numbered g v st h = grind (arith, cut_numbered, image_numbered)
+step_numbered g v st h = grind (arith, image_numbered, numbered-map, number-cut)
 
 step_course : (g : Group) (v : Option ℕ) (st : State) → IsOfAgenda st → IsOfAgenda (step_made (Some g) v st)
 step_course g v st of = grind (arith, step_numbered, course-step_made, step_same, volumes_same)
@@ -121,17 +111,17 @@ made_goes g v a st of runs_it =
     let x = step_made (Some g) v st in
     let c = course_stepped true st.clock st.course in
     let course = course-step_made (Some g) v st in
-    goes_from st x (followed (runs st) c x) course (step_same g v st)
-    (subst (λ (d : Course). GoesOn x (followed (runs (record st { course = d })) c x)) course
-    (stepped_goes a (with_step st.clock a) c x (step_course g v st of) (ap (λ (d : Course). d.agenda) course ∙ runs_it) refl
-    (subst (λ (o : SetOutcome). Settles (is_done (groups_left (with_step st.clock a))) (with_step st.clock a) o c.agenda c.outcome) (sym (ap (λ (d : Course). d.outcome) course))
-    (step_settles st.clock st.course a runs_it))))
-
-above_made : (o : Option SetRow) (v : Option ℕ) (st : State) → ((r : SetRow) → o ≡ Some r → 0 < r.number) → NoneOfZero st.volumes → NoneOfZero (image_made o v st).volumes
-above_made o v st l h = grind (arith, image_above)
+    grind (
+      arith,
+      (step_same g v st),
+      (subst (λ (d : Course). GoesOn x (followed (runs (record st { course = d })) c x)) course
+          (stepped_goes a (with_step st.clock a) c x (step_course g v st of) (ap (λ (d : Course). d.agenda) course ∙ runs_it) refl
+          (subst (λ (o : SetOutcome). Settles (is_done (groups_left (with_step st.clock a))) (with_step st.clock a) o c.agenda c.outcome)
+          (sym (ap (λ (d : Course). d.outcome) course)) (step_settles st.clock st.course a runs_it)))),
+    )
 
 made_above : (g : Group) (v : Option ℕ) (st : State) → ((r : SetRow) → in_progress st ≡ Some r → 0 < r.number) → NoneOfZero st.volumes → NoneOfZero (step_made (Some g) v st).volumes
-made_above g v st l h = grind (arith, cut_volumes, above_made)
+made_above g v st l h = grind (arith, cut_volumes, image_above)
 
 -- the agenda that makes the step, and its set
 pub stepping : (s : Plan) (x : SessionsValue) (acts : List Act) (group : Group) (volume : Option ℕ) → IsNextStep x group volume → Keeps x (state s acts) → IsStepping s acts group volume
@@ -274,13 +264,10 @@ step_lasts device s group volume made ok m q r told_is is settled lasts v d said
 
 -- ## images of earlier sets
 
-under_one : (a n : ℕ) → a ≤ n → (a == n) ≡ false → a < n
-under_one a n l e = grind arith
-
 under : (n : ℕ) (images : List Image) → UpTo n images → is_some (point_in n images) ≡ false → All (λ (i : Image). i.set < n) images
 under n [] h e = All-nil (λ (i : Image). i.set < n)
 under n (i ∷ images) h e =
-    let parts = by_head (i.set == n) e in All-cons (λ (j : Image). j.set < n) i images (under_one i.set n h.0 parts.0) (under n images h.1 parts.1) where
+    let parts = by_head (i.set == n) e in All-cons (λ (j : Image). j.set < n) i images (grind (arith, h.0, parts.0)) (under n images h.1 parts.1) where
       by_head : (b : Bool) → is_some (if b then Some i.point else point_in n images) ≡ false → (b ≡ false) × (is_some (point_in n images) ≡ false)
       by_head b e = grind arith
 

@@ -18,7 +18,7 @@ use Rattle.provider.proofs.Called.{rose_at}
 use Rattle.vss_world.specs.declared.reply.Reply.{Reply as Answer}
 use Rattle.vss_world.specs.Moves.{HasMark, IsToldStep, StopsAs, StopsAfter}
 use Rattle.vss_world.proofs.Moved.{world_of}
-use Rattle.vss_world.proofs.Looking.{IsPlain, failed_moves, provided_point}
+use Rattle.vss_world.proofs.Looking.{failed_moves, provided_point}
 use Rattle.vss_world.proofs.Removed.{revert_is}
 use Rattle.vss_world.proofs.Step.{failed_moves as step_failed}
 use Rattle.vss_world.proofs.Unsaid.{unsaid, settled_unsaid}
@@ -33,15 +33,6 @@ LooksAt v (ShowsImage n u) = u ≡ v
 LooksAt v (ShowsBlock n u b) = u ≡ v
 LooksAt v _ = ⊥
 
-look_plain : (s : Plan) (lane : ℕ) (op : Op) (v : ℕ) (l : Does) → line_of op ≡ l → LooksAt v l → IsPlain s lane op
-look_plain s lane op v l e look = grind arith
-
-look_volume : (v : ℕ) (l : Does) → LooksAt v l → volume_by l ≡ Some v
-look_volume v l look = grind arith
-
-look_within : (s : Plan) (op : Op) (v : ℕ) (l : Does) → LooksAt v l → IsRangedBy (length s.source) s.volumes (length s.writers) op l → v < length s.volumes
-look_within s op v l look range = grind arith
-
 look_faults : (s : Plan) (lane : ℕ) (op : Op) (v : ℕ) (l : Does) → line_of op ≡ l → LooksAt v l → (st : State)
     → allows_by s st l Fault ≡ true → line s lane op Fault st ≡ (Faulted, st)
 look_faults s lane op v l e look st allowed = grind arith
@@ -51,7 +42,7 @@ module _ {D : Type 0} (device : Ghosts D) {s : Plan} {p : ProviderValue D} {x : 
       → IfStands device.told (world_of p x l e) s (λ st. allows_by s st looks Fault ≡ true)
       → IsMoved (counted_as device true) (world_of p x l e) (world_of p x l f) s (Line lane op) (simple_outcome told.Fault)
   look_fails {lane = lane} {op = op} none v looks is look within allowed =
-      failed_moves (unsaid device) of none told.Fault v Volume (ap volume_by is ∙ look_volume v looks look) (look_plain s lane op v looks is look) (kept_same (unsaid device) p.groups)
+      failed_moves (unsaid device) of none told.Fault v Volume (ap volume_by is ∙ (grind arith)) (grind arith) (kept_same (unsaid device) p.groups)
       (rose_at s p.groups v of.groups within) refl refl
       (λ acts stands. let st = state s acts in record {
         allowed = ap (λ (x : Does). allows_by s st x Fault) is ∙ allowed acts stands;
@@ -72,7 +63,7 @@ looked {D} device s w lane op v looks of is look range allowed =
     record {
       stepped = subst (λ (x : WorldValue D). IsMoved (counted_as device true) x (record x { evicted = [] }) s (Line lane op) (simple_outcome told.Fault)) same
           (look_fails device (subst (λ (x : WorldValue D). IsOf x s) (sym same) of) refl v looks is look
-          (look_within s op v looks look (subst (IsRangedBy (length s.source) s.volumes (length s.writers) op) is range))
+          (grind (arith, (subst (IsRangedBy (length s.source) s.volumes (length s.writers) op) is range)))
           (λ acts stands. allowed acts (subst (λ (x : WorldValue D). Stands device.told x s acts) same stands)));
       marked = λ needs acts stands may. refl;
       lasts = λ e. cc;
@@ -125,9 +116,6 @@ record MayStop (s : Plan) (st : State) (n v k : ℕ) : Type 0 where
   free : revert_refusal v (Some image) st ≡ None
   more : nat_lt k (restorable s st v (Some image)) ≡ true
 
-may_stop : (s : Plan) (st : State) (n v k : ℕ) (o : Option Kept) → kept_image st n v ≡ o → may_stop_after s st v o k ≡ true → MayStop s st n v k
-may_stop s st n v k o e allowed = grind arith
-
 too_few : (k n : ℕ) → nat_lt k n ≡ true → n ≤ k → ⊥
 too_few k n e l = grind (arith, nat_tests)
 
@@ -141,20 +129,17 @@ module _ {D : Type 0} (device : Ghosts D) (s : Plan) (old new : WorldValue D) (l
   tells = tells_of device.told s old.devices
 
   free : MayStop s st n v k
-  free = may_stop s st n v k (kept_image st n v) refl allowed
+  free = grind arith
 
   reverts : (mark : Mark) → revert s n v mark st ≡ reverted_as s v free.image mark st
   reverts mark = revert_is s n v mark st (Some free.image) None free.is free.free
-
-  as_told : (t : Told) → o.told ≡ t → StopsAs device.told old s n v k t
-  as_told t e = subst (StopsAs device.told old s n v k) e stops
 
   clash : false ≡ true → ⊥
   clash f = cc
 
   by_mark : (mark : Mark) → mark_of o.told ≡ mark → line_allows s st (Revert n v) (mark_of o.told) ≡ true → Fits tells (revert s n v (mark_of o.told) st).0 o.told
       → mark_of o.told ≡ FaultAfter k
-  by_mark mark e may said = grind (arith, reverts, too_few, free, as_told, clash)
+  by_mark mark e may said = grind (arith, reverts, too_few, free, clash)
 
   has_stopped : mark_of o.told ≡ FaultAfter k
   has_stopped =

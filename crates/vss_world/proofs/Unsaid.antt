@@ -3,25 +3,20 @@ use Rattle.std.proofs.Common.{ℕ, List, [], Bool, Option, if◌then◌else◌, 
 use Rattle.std.specs.Prelude.{◌≡◌, Result, Ok, Err, IfOk, IsErr, OnErr}
 use Rattle.vss_names.specs.declared.out_of_memory.OutOfMemory.{OutOfMemory}
 use Rattle.cow_volume.proofs.RestoringMerged.{same_counts, kept_uncounted, no_rise}
-use Rattle.vss_model.specs.Words.{Act, Fits, HasLists, Plan, Reply, WriterRow, reply, state, told_act}
+use Rattle.vss_model.specs.Words.{Fits, HasLists, Plan, Reply, WriterRow, reply, state, told_act}
 use Rattle.provider.specs.Words.{NeverFails, uncounted, counted_as}
 use Rattle.provider.proofs.Kept.{same_length}
 use Rattle.provider.proofs.Called.{as_many, rose_unsaid}
 use Rattle.vss_world.specs.Moves.{HasMark, IsMarked, IsToldStep, StepLasts, takes_memory}
 use Rattle.vss_world.specs.Words.{Event, Told}
-use Rattle.vss_world.proofs.Words.{Blocked, Ghosts, IsStepped, Moved, Reply as Answer, Stands, WorldValue, listed_after, lists_sets, tells_of, AreKept}
+use Rattle.vss_world.proofs.Words.{Blocked, Ghosts, IsStepped, Moved, Reply as Answer, WorldValue, listed_after, lists_sets, tells_of, AreKept}
 use Rattle.vss_world.proofs.Words.{AreWithout, Clean, Complete, Evicted, Failed, GroupValue, IsEnded, IsReleased, IsSettled, MakesRoom, Mark, ProviderValue}
-use Rattle.vss_world.proofs.Words.{RoseAlone, RoseFor, Running, SessionMove, SessionsValue, SetOutcome, counts_of, Provider, devices_of, later_same}
+use Rattle.vss_world.proofs.Words.{RoseAlone, Running, SessionMove, SessionsValue, SetOutcome, counts_of, Provider, devices_of, later_same}
 
 -- ## The list of sets after a step: a move that lists no sets leaves it empty, and what the core stands for is as it was.
 
 lists_then : (tells : List Bool) (r : Reply) (t : Told) (listed : List ℕ) (rows : List WriterRow) → Fits tells r t → HasLists r listed rows → HasLists r (if lists_sets t then listed else []) rows
 lists_then tells r t listed rows fits lists = grind arith
-
--- the core with another list stands for the same
-stands_with : {D : Type 0} (blocks_told : D → Option (List (List ℕ))) (s : Plan) (w : WorldValue D) (listed : List ℕ) (acts : List Act) → Stands blocks_told w s acts
-    → Stands blocks_told (record w { listed = listed }) s acts
-stands_with blocks_told s w listed acts stands = record { at = stands.at; sets = stands.sets; posts = stands.posts; early = stands.early }
 
 pub listed_so : {D : Type 0} (device : Ghosts D) (s : Plan) (event : Event) (answer : Answer) (old new : WorldValue D)
     → IsStepped device old new s event answer → IsStepped device old (record new { listed = listed_after answer new.listed }) s event answer
@@ -41,7 +36,14 @@ listed_so device s event (Moved o) old new step =
             order = out.order;
             ends = out.ends;
           };
-      stands_for = λ acts stands. stands_with device.told s new listed _ (step.stands_for acts stands);
+      stands_for = λ acts stands.
+          record {
+            at = (step.stands_for acts stands).at;
+            sets = (step.stands_for acts stands).sets;
+            posts = (step.stands_for acts
+                stands).posts;
+            early = (step.stands_for acts stands).early;
+          };
       is_of = record { devices = step.is_of.devices; number = step.is_of.number; groups = step.is_of.groups; writers = step.is_of.writers };
       tells = step.tells;
       later = step.later;
@@ -123,10 +125,6 @@ never_alone count (x ∷ xs) (y ∷ ys) zero never rose = no_rise (count x) (cou
 never_alone count (x ∷ xs) (y ∷ ys) (suc k) never rose = never_alone count xs ys k never rose.1
 
 module _ {D : Type 0} (device : Ghosts D) where
-  rose_for : (s : Plan) (v : Option ℕ) (xs ys : List D) → RoseFor s v (map device.count xs) (map device.count ys)
-      → RoseFor s v (map (λ (d : D). uncounted d) xs) (map (λ (d : D). uncounted d) ys)
-  rose_for s v xs ys rose = grind (arith, rose_unsaid)
-
   pub step_unsaid : (old new : WorldValue D) (s : Plan) (event : Event) (reply : Answer) → IsStepped device old new s event reply
       → IsStepped (unsaid device) old new s event reply
   step_unsaid old new s event Blocked step = step
@@ -140,7 +138,7 @@ module _ {D : Type 0} (device : Ghosts D) where
         is_of = moves.is_of;
         tells = moves.tells;
         later = later_same (map (λ (d : D). uncounted d) old.devices) (map (λ (d : D). uncounted d) new.devices) same;
-        rose = λ fault. rose_for s _ old.devices new.devices (moves.rose fault);
+        rose = λ fault. grind (arith, rose_unsaid, (moves.rose fault));
         unfailed = λ clean. same;
       }
 
