@@ -37,16 +37,23 @@ fn report_in_turn<R: Threads + Sync, M: Maker>(
     played.finish(rt, maker)
 }
 
+/// Why a run has no report that halted.
+fn unplayed_of(halted: Halted) -> Unplayed
+    ensures { result ≡ unplayed_at halted }
+{
+    match halted {
+        Halted::At { entry, why } => Unplayed::Halted { entry, why },
+        Halted::OutOfMemory => Unplayed::OutOfMemory,
+    }
+}
+
 /// Lets a run go that has no report, and says why it has none.
 fn let_go<D: Device>(play: Play<D>, halted: Halted) -> Unplayed
     ensures why { result ≡ unplayed_at halted }
     ensures kept { IsKept D.told play }
 {
     let _facts = play.lanes();
-    match halted {
-        Halted::At { entry, why } => Unplayed::Halted { entry, why },
-        Halted::OutOfMemory => Unplayed::OutOfMemory,
-    }
+    unplayed_of(halted)
 }
 
 /// Why a run has no report that did not halt.

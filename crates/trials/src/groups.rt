@@ -54,6 +54,24 @@ fn lists_in(page: &mut Page, bytes: &[u8]) -> Result<Option<Vec<Numbers>>, Stopp
     }
 }
 
+/// The lists of the catalog of a group, whose bytes are shown, two digits each, or of other bytes that are given so.
+fn lists_of(
+    page: &mut Page,
+    group: &CowGroup<MemDevice>,
+    digits: &str,
+) -> Result<Option<Vec<Numbers>>, Stopped>
+    ensures { IfOk result (λ some. IfSome some (λ lists. All AreImages lists.items)) }
+{
+    let catalog = catalog_of(page.alloc(), group)?;
+    let given = hex::decode(page.alloc(), digits).map_err(|_| Stopped)?;
+    page.say(hex::encode(page.alloc(), catalog.bytes())?.as_bytes());
+    if given.is_empty() {
+        lists_in(page, catalog.bytes())
+    } else {
+        lists_in(page, &given)
+    }
+}
+
 /// A group over these devices and this area is taken up with these lists.
 fn resumed(
     alloc: Global,
@@ -100,19 +118,10 @@ impl Groups {
         Ok(())
     }
 
-    /// Takes the group apart, shows the bytes of its catalog, two digits each, and takes it up again with the lists of these bytes, or of others
-    /// that are given so.
+    /// Takes the group apart, and takes it up again with the lists of its catalog, or of other bytes that are given in digits.
     fn again(&mut self, page: &mut Page, digits: &str) -> Done {
         let group = self.group.take().ok_or(Stopped)?;
-        let catalog = catalog_of(page.alloc(), &group)?;
-        let given = hex::decode(page.alloc(), digits).map_err(|_| Stopped)?;
-        page.say(hex::encode(page.alloc(), catalog.bytes())?.as_bytes());
-        let bytes = if given.is_empty() {
-            catalog.bytes()
-        } else {
-            &given
-        };
-        if let Some(lists) = lists_in(page, bytes)? {
+        if let Some(lists) = lists_of(page, &group, digits)? {
             self.group = reopened(page, group, &lists)?;
         }
         Ok(())
