@@ -1,14 +1,16 @@
 -- An ordered call is accepted just where it may come.
 use Rattle.std.proofs.Common.{◌≡◌, ◌∙◌, ℕ, ◌+◌, ◌==◌, List, [], ◌∷◌, Option, Some, None, refl, Bool, true, false, ap, sym, subst, length, arith}
-use Rattle.std.specs.Prelude.{◌&&◌, ◌||◌, not, is_some, is_none, slice_get, if◌then◌else◌}
-use Rattle.promises.proofs.Words.{Context, AsyncPending, BadState, SnapshotSetInProgress, Mark, Part, Meta, Pair, found_from, naming_found}
-use Rattle.promises.proofs.Words.{naming_of, Mode, SessionCall, Stage, Opened, Gathered, Started, Prepared, Verdict, Session, has_writers, makes_set, mode_of}
-use Rattle.promises.proofs.Words.{context_of, check, check_other, check_owner, owner_only, verdict_of, allows, stage_code, is_stage, goes_beside_agenda}
-use Rattle.promises.proofs.Words.{is_start, is_await, Op, Plan, Event, Line, Reply, Coded, StatusOf, State, SetRow, in_progress, history_of, runs}
-use Rattle.promises.proofs.Words.{Replied, known_metas, named_as, component_in, add, has_no_volume, judged, line_in, session_line, Act, happens, reply_is}
-use Rattle.promises.proofs.Words.{reply, state, IsOfSession, owns, is_fine, orderly, is_ordered, is_accepted, can_name_in, can_name, has_place, has_volume}
-use Rattle.promises.proofs.Words.{has_its_wants, IsAccepting, is_context, AcceptsInOrder, Step, ByBegin, ByGather, ByStart, ByPrepare, BySnapshot, Progress}
-use Rattle.promises.proofs.Words.{progress, step_code, is_step, asks_writers, comes_now, number_of, context_of_number, called, and-true, true_not_false}
+use Rattle.std.specs.Prelude.{◌&&◌, ◌||◌, not, nat_le, nat_lt, nat_eq, is_some, is_none, option_and_then, slice_get, if◌then◌else◌}
+use Rattle.promises.proofs.Words.{bytes_eq, Context, Backup, AppRollback, NasRollback, AsyncPending, BadState, SnapshotSetInProgress, ObjectAlreadyExists}
+use Rattle.promises.proofs.Words.{MaximumNumberOfVolumesReached, MaximumNumberOfSnapshotsReached, Mark, Part, Meta, full_name, Pair, has_pair, found_from}
+use Rattle.promises.proofs.Words.{naming_if, naming_found, naming_of, Mode, SessionCall, Stage, Opened, Gathered, Started, Prepared, Verdict, Session}
+use Rattle.promises.proofs.Words.{has_writers, makes_set, mode_of, context_of, without_all, check, check_other, check_owner, owner_only, verdict_of, allows}
+use Rattle.promises.proofs.Words.{stage_code, is_stage, goes_beside_agenda, is_start, is_await, Op, Plan, token, Event, Line, Reply, Fine, Coded, StatusOf}
+use Rattle.promises.proofs.Words.{State, SetRow, in_progress, history_of, runs, Replied, known_metas, named_as, component_in, add_to, add, has_no_volume}
+use Rattle.promises.proofs.Words.{judged, line_in, session_line, Act, happens, reply_is, reply, state, IsOfSession, owns, is_fine, orderly, is_ordered}
+use Rattle.promises.proofs.Words.{is_accepted, can_name_in, can_name, has_place, has_volume, has_its_wants, IsAccepting, is_context, AcceptsInOrder, Step}
+use Rattle.promises.proofs.Words.{ByBegin, ByGather, ByStart, ByPrepare, BySnapshot, Progress, progress, step_code, is_step, asks_writers, comes_now, number_of}
+use Rattle.promises.proofs.Words.{context_of_number, called, and-true, true_not_false}
 use Rattle.requestor.specs.declared.session_call.SessionCall.TheVariants as call
 use Rattle.scenario.specs.declared.op.Op.TheVariants as op
 use Rattle.promises.proofs.Progress.{stage_of, StandsAt, stands_all}
@@ -82,22 +84,46 @@ allowed_in w stage c = not (is_start c && makes_set stage) && allows stage w c
 -- ## what a call wants
 
 module _ (s : Plan) (st : State) where
+  name_if : (named : List Pair) (q : Pair) (a b : Bool) → is_accepted (named_as (naming_if a b q named) st).0 ≡ (a && not b)
+  name_if named q a b = grind arith
+
   name_in : (w : ℕ) (named : List Pair) (name : List ℕ) (i : ℕ) (ps : List Part) → is_accepted (named_as (naming_found w (found_from name i ps) named) st).0 ≡ can_name_in w named name i ps
   name_in w named name i [] = refl
-  name_in w named name i (p ∷ ps) = grind (arith, name_in w named name (i + 1) ps)
+  name_in w named name i (p ∷ ps) = by_name (bytes_eq (full_name p) name) (name_in w named name (i + 1) ps) where
+    by_name : (b : Bool) → is_accepted (named_as (naming_found w (found_from name (i + 1) ps) named) st).0 ≡ can_name_in w named name (i + 1) ps
+        → is_accepted (named_as
+        (naming_found w (if b then Some (record { component = i; selectable = p.selectable }) else found_from name (i + 1) ps) named) st).0
+        ≡ (if b then p.selectable && not (has_pair named w i) else can_name_in w named name (i + 1) ps)
+    by_name true ih = name_if named (record { writer = w; component = i }) p.selectable (has_pair named w i)
+    by_name false ih = ih
 
   name_of : (w : ℕ) (name : List ℕ) (named : List Pair) (o : Option (Option Meta)) → is_accepted (named_as (naming_of w name o named) st).0 ≡ can_name w named name o
-  name_of w name named o = grind (arith, name_in)
+  name_of w name named (Some (Some m)) = name_in w named name 0 m.parts
+  name_of w name named _ = refl
 
   component_wants : (w : ℕ) (name : List ℕ) (mode : Mode) (all : Bool) → mode ≡ mode_of all
       → is_accepted (component_in mode s w name st).0 ≡ (not all && can_name w st.explicit name (slice_get (known_metas s st) w))
   component_wants w name mode all e = grind (arith, name_of)
 
+  component_fine : (w : ℕ) (name : List ℕ) (mode : Mode) → is_accepted (component_in mode s w name st).0 ≡ true → (component_in mode s w name st).0 ≡ Fine
+  component_fine w name mode e = grind arith
+
+  not_full : (m n : ℕ) → nat_le m n ≡ not (nat_lt n m)
+  not_full m n = grind arith
+
+  add_tests : (v : ℕ) (r : SetRow) (a b c : Bool) → is_accepted (add_to v r
+      (if a then Some ObjectAlreadyExists else if b then Some MaximumNumberOfVolumesReached else if c then Some MaximumNumberOfSnapshotsReached else None) st).0
+      ≡ (not a && not b && not c)
+  add_tests v r a b c = grind arith
+
   twice_not : (b : Bool) → not (not b) ≡ b
   twice_not b = grind arith
 
   add_wants : (v : ℕ) (o : Option SetRow) → is_accepted (add v o st).0 ≡ has_place v (length (history_of st v).images) o
-  add_wants v o = grind (arith, twice_not)
+  add_wants v o = grind (arith, add_tests, not_full, twice_not)
+
+  add_fine : (v : ℕ) (o : Option SetRow) → is_accepted (add v o st).0 ≡ true → (add v o st).0 ≡ Fine
+  add_fine v o e = grind arith
 
   volume_wants : (o : Option SetRow) → not (has_no_volume o) ≡ has_volume o
   volume_wants o = grind arith
@@ -156,7 +182,11 @@ module _ (s : Plan) (so_far : List Act) (lane : ℕ) where
   ordered_line : (o : Op) (mark : Mark) → is_ordered o ≡ true → is_accepted (happens s (Line lane o) mark st).0 ≡ May st.session o
   ordered_line (op.Disable x) mark e = ordered_call call.Disable (op.Disable x) refl refl refl (ap (λ b. b && w) (same_stage p.step ByBegin)) (λ q f. refl)
   ordered_line op.Gather mark e = ordered_call call.Gather op.Gather refl refl refl (ap (λ b. b && w) (same_stage p.step ByBegin)) (λ q f. refl)
-  ordered_line (op.Component x full) mark e = grind (arith, ordered_call, same_stage, component_wants)
+  ordered_line (op.Component x full) mark e =
+      ordered_call call.Component (op.Component x full) refl refl refl
+      (ap (λ b. (b || is_stage (stage_of p.step) Started) && w) (same_stage p.step ByGather)
+      ∙ ap (λ b. (is_step p.step ByGather || b) && w) (same_stage p.step ByStart))
+      (λ q f. component_wants s st x (token s full) q.mode p.all f)
   ordered_line op.Document mark e = ordered_call call.Document op.Document refl refl refl (ap (λ b. not b && w) (same_stage p.step ByBegin)) (λ q f. refl)
   ordered_line op.Start mark e = ordered_call call.Start op.Start refl refl refl (start_stage p.step w) (λ q f. refl)
   ordered_line (op.Add v) mark e = ordered_call call.Add (op.Add v) refl refl refl (same_stage p.step ByStart) (λ q f. add_wants s st v (in_progress st))
@@ -178,13 +208,30 @@ module _ (s : Plan) (so_far : List Act) (lane : ℕ) where
     by_session (Some q) f = let is = tells s st lane c o q f same e in subst (IsAccepting st o) (sym is) (k q (ap is_accepted (sym is) ∙ e))
 
   told_line : (o : Op) (mark : Mark) → is_ordered o ≡ true → is_accepted (happens s (Line lane o) mark st).0 ≡ true → IsAccepting st o (happens s (Line lane o) mark st).0
-  told_line o mark e = grind (arith, told_call, pending_told)
+  told_line o mark e = grind (arith, told_call, component_fine, add_fine, pending_told)
 
   -- ## the other calls
 
   context_there : (n : ℕ) (all : Bool) → is_some (context_of n all) ≡ is_context n all
   unfolding context_of_number
-  context_there n all = grind arith
+  context_there n all =
+      by_tests (nat_eq 0 n) (nat_eq 9 n) (nat_eq 25 n) all
+      ∙ ap (λ b. b || nat_eq 9 n || (nat_eq 25 n && not all)) (other_way 0 n) ∙ ap (λ b. (n == 0) || b || (nat_eq 25 n && not all)) (other_way 9 n)
+      ∙ ap (λ b. (n == 0) || (n == 9) || (b && not all)) (other_way 25 n) where
+        other_way : (a b : ℕ) → nat_eq a b ≡ (b == a)
+        other_way a b = grind arith
+
+        by_tests : (x y z a : Bool)
+            → is_some (option_and_then (without_all a) (if x then Some Backup else if y then Some AppRollback else if z then Some NasRollback else None))
+            ≡ (x || y || (z && not a))
+        by_tests true y z true = refl
+        by_tests true y z false = refl
+        by_tests false true z true = refl
+        by_tests false true z false = refl
+        by_tests false false true true = refl
+        by_tests false false true false = refl
+        by_tests false false false true = refl
+        by_tests false false false false = refl
 
   begin_line : (n : ℕ) (all : Bool) → is_fine (called (call.Begin n all) s lane (op.Begin n all) st).0 ≡ (is_none st.session && is_context n all)
   unfolding called
@@ -194,7 +241,8 @@ module _ (s : Plan) (so_far : List Act) (lane : ℕ) where
   pub makes_its_set : (q : Session) → st.session ≡ Some q → makes_set q.stage ≡ is_some (in_progress st)
   makes_its_set q e = by_set (in_progress st) (subst (λ x. IsOfSession x st.course.outcome (in_progress st)) e (orderly s so_far).session) where
     by_set : (o : Option SetRow) → IsOfSession (Some q) st.course.outcome o → makes_set q.stage ≡ is_some o
-    by_set o h = grind arith
+    by_set None h = h.0
+    by_set (Some r) h = h.0
 
   beside : (own may busy : Bool) → (own && (true && (not (busy && false) && (may && (true && true))))) ≡ (own && may)
   beside own may busy = grind arith

@@ -1,12 +1,13 @@
 -- Exactly the writers whose time is over are lost.
 use Rattle.promises.proofs.Words.{list_any, Order, Freeze, WriterRow, answer_limit, default_freeze, is_spent, Group, Orders, Limit, Member, Agenda, Open, left}
-use Rattle.promises.proofs.Words.{waits_now, is_among, is_orders, order_if, open_order, Running as RunningLimit, opened_at, freeze_opened_at, first_hold}
-use Rattle.promises.proofs.Words.{freeze_runs, answer_runs, runs_if, hold_running, running_at, spent_of, Course, limit_of, freeze_limit, lost_at, Plan, State}
-use Rattle.promises.proofs.Words.{left_now, Act, has_passed, lost_after, is_over, is_over_after, LosesTheLate, freeze_since, answer_since, Lost, Place, others}
-use Rattle.promises.proofs.Words.{others_if, asks_unfailed, unasked, unasked_if, advance, Entry, places, same_place, with_group, left_from, groups_left}
-use Rattle.promises.proofs.Words.{open_place, at_place, last_time, hold_runs, groups_left-all_say, and_parts, or_right, unless, true_not_false}
-use Rattle.std.proofs.Common.{◌≡◌, ◌∙◌, ℕ, List, [], ◌∷◌, ◌++◌, Option, Some, None, refl, Bool, true, false, ap, fold, arith, sym, subst, inr, map, filter}
-use Rattle.std.specs.Prelude.{◌&&◌, ◌||◌, is_some, min, slice_get, ◌==◌, not, if◌then◌else◌}
+use Rattle.promises.proofs.Words.{order_of, order_now, waits_now, is_among, is_orders, order_if, open_order, Running as RunningLimit, opened_at}
+use Rattle.promises.proofs.Words.{freeze_opened_at, first_hold, freeze_runs, answer_runs, runs_if, hold_running, running_at, running_limits, spent_of, Course}
+use Rattle.promises.proofs.Words.{limit_of, freeze_limit, lost_at, Plan, State, left_now, Act, has_passed, last_of, is_elsewhere, lost_after, lost_order_if}
+use Rattle.promises.proofs.Words.{is_over, is_over_at, is_over_in, is_over_after, LosesTheLate, freeze_since, answer_since, Lost, Kind, Place, others}
+use Rattle.promises.proofs.Words.{others_if, asks_unfailed, unasked, unasked_if, advance, Entry, places, same_place, waited_for, with_group, left_from}
+use Rattle.promises.proofs.Words.{groups_left, open_place, at_place, last_time, hold_runs, groups_left-all_say, and_parts, or_right, unless, true_not_false}
+use Rattle.std.proofs.Common.{◌≡◌, ◌∙◌, ℕ, ◌+◌, List, [], ◌∷◌, ◌++◌, Option, Some, None, refl, Bool, true, false, ap, fold, arith, sym, subst, inr, map, filter}
+use Rattle.std.specs.Prelude.{◌&&◌, ◌||◌, is_some, min, nat_lt, slice_get, ◌==◌, not, if◌then◌else◌}
 use Rattle.set_agenda.specs.declared.limit.Limit.TheVariants.{Freeze as FreezeLimit, Answer as AnswerLimit}
 use Rattle.promises.proofs.Participants.{off}
 use Rattle.writer_meta.proofs.Laws.{and_left}
@@ -23,8 +24,21 @@ spent_is now since limit = grind arith
 least_is : (now since least : ℕ) (rows : List WriterRow) (ms : List Member)
     → has_passed (fold (λ l (m : Member). min l (limit_of (slice_get rows m.writer))) least ms) since now
     ≡ (has_passed least since now || list_any (λ (m : Member). has_passed (limit_of (slice_get rows m.writer)) since now) ms)
-least_is now since least rows [] = grind arith
-least_is now since least rows (m ∷ ms) = grind (arith, least_is now since (min least (limit_of (slice_get rows m.writer))) rows ms)
+least_is now since least rows [] = or_nothing (has_passed least since now) where
+  or_nothing : (a : Bool) → a ≡ (a || false)
+  or_nothing true = refl
+  or_nothing false = refl
+least_is now since least rows (m ∷ ms) =
+    least_is now since (min least (limit_of (slice_get rows m.writer))) rows ms
+    ∙ ap (λ b. b || list_any (λ (x : Member). has_passed (limit_of (slice_get rows x.writer)) since now) ms) (of_min least (limit_of (slice_get rows m.writer)) since now)
+    ∙ regrouped (has_passed least since now) (has_passed (limit_of (slice_get rows m.writer)) since now) (list_any (λ (x : Member). has_passed (limit_of (slice_get rows x.writer)) since now) ms)
+  where
+    of_min : (a b t x : ℕ) → nat_lt (t + min a b) x ≡ (nat_lt (t + a) x || nat_lt (t + b) x)
+    of_min a b t x = grind arith
+
+    regrouped : (a b c : Bool) → ((a || b) || c) ≡ (a || (b || c))
+    regrouped true b c = refl
+    regrouped false b c = refl
 
 one_spent : (now : ℕ) (x : Limit) (since ticks : ℕ) → is_some (spent_of now (runs_if true x since ticks)) ≡ is_spent now since ticks
 one_spent now x since ticks = grind arith
@@ -47,8 +61,11 @@ module _ (now : ℕ) (c : Course) (a : Agenda) (o : Open) where
       ∙ least_is now (freeze_opened_at a) default_freeze c.rows c.members
       ∙ ap (λ t. has_passed default_freeze t now || list_any (λ (m : Member). has_passed (limit_of (slice_get c.rows m.writer)) t now) c.members) (freeze_since a)
 
+  answer_spent : is_some (spent_of now (runs_if true AnswerLimit (opened_at a o) answer_limit)) ≡ has_passed answer_limit (last_of (is_elsewhere o.place) a) now
+  answer_spent = grind (arith, one_spent, spent_is, answer_since)
+
   order_spent : (x : Order) → is_some (spent_of now (running_of (freeze_limit c) a o (Orders x))) ≡ is_over now c a o (Some x)
-  order_spent x = grind (arith, asking, one_spent, spent_is, answer_since, freeze_spent)
+  order_spent x = grind (arith, asking, answer_spent, freeze_spent)
 
   -- ## who is lost
 
@@ -58,13 +75,31 @@ module _ (now : ℕ) (c : Course) (a : Agenda) (o : Open) where
   nobody : (w : ℕ) (l : Option RunningLimit) → is_among w (lost_at l None o.waits) ≡ false
   nobody w l = grind arith
 
+  told_at : (g : Group) (w : ℕ) → is_among w (lost_at (spent_of now (running_of (freeze_limit c) a o g)) (order_of g) o.waits)
+      ≡ (is_some (order_if (is_orders g && is_among w o.waits) (order_of g)) && is_over now c a o (order_of g))
+  told_at g w = grind (arith, by_spent, order_spent, nobody)
+
+told_left : (now : ℕ) (c : Course) (a : Agenda) (w : ℕ) (os : List Open)
+    → is_among w (lost_at (spent_of now (running_at (freeze_limit c) a os)) (order_now os) (waits_now os)) ≡ (is_some (open_order os w) && is_over_at now c a os)
+told_left now c a w os = grind (arith, told_at)
+
+told_in : (now : ℕ) (c : Course) (x : Option Agenda) (w : ℕ)
+    → is_among w (lost_at (spent_of now (running_limits (freeze_limit c) x)) (order_now (left x)) (waits_now (left x))) ≡ (is_some (open_order (left x) w) && is_over_in now c x)
+told_in now c x w = grind (arith, told_left)
+
 told_after : (n : Option ℕ) (st : State) (w : ℕ) → is_among w (lost_after n st) ≡ (is_some (open_order (left_now st) w) && is_over_after n st)
-told_after n st w = grind (arith, off, by_spent, order_spent, nobody)
+told_after n st w = grind (arith, off, told_in)
 
 -- ## by which order
 
+owes : (os : List Open) (w : ℕ) → is_some (open_order os w) ≡ true → order_now os ≡ open_order os w
+owes os w e = grind arith
+
+someone : (ws : List ℕ) (w : ℕ) (o : Option Order) → is_among w ws ≡ true → lost_order_if ws o ≡ o
+someone ws w o e = grind arith
+
 pub loses_the_late : (s : Plan) (so_far : List Act) (act : Act) → LosesTheLate s so_far act
-loses_the_late s so_far act = grind (arith, told_after, and_left)
+loses_the_late s so_far act = grind (arith, told_after, someone, owes, and_left)
 
 -- ## all answers to an order are lost, and the agenda goes on: no limit is outrun in the group that opens then
 
@@ -78,6 +113,9 @@ abbrev all_apart : List Place → Bool
 all_apart [] = true
 all_apart (p ∷ ps) = none_same p ps && all_apart ps
 
+kind_apart : (k : Kind) → all_apart (places k) ≡ true
+kind_apart k = grind arith
+
 abbrev Apart : Place → List Open → Type 0
 Apart p [] = Unit {0}
 Apart p (o ∷ os) = (same_place p o.place ≡ false) × Apart p os
@@ -87,11 +125,18 @@ apart_group p q ws later e h = grind arith
 
 apart_left : (a : Agenda) (p : Place) (qs : List Place) → none_same p qs ≡ true → Apart p (left_from a qs)
 apart_left a p [] e = tt
-apart_left a p (q ∷ qs) e = grind (arith, and_parts, apart_group, unless, apart_left a p qs (grind arith))
+apart_left a p (q ∷ qs) e =
+    let parts = and_parts (not (same_place p q)) (none_same p qs) e in
+    apart_group p q (waited_for a q) (left_from a qs) (unless (same_place p q) parts.0) (apart_left a p qs parts.1)
+
+first_apart : (p : Place) (ws : List ℕ) (later : List Open) (o : Open) (os : List Open) → Apart p later → (later ≡ o ∷ os → Apart o.place os) → with_group p ws later ≡ o ∷ os → Apart o.place os
+first_apart p ws later o os h ih e = grind arith
 
 rest_apart : (a : Agenda) (ps : List Place) (o : Open) (os : List Open) → all_apart ps ≡ true → left_from a ps ≡ o ∷ os → Apart o.place os
 rest_apart a [] o os e f = absurd cc
-rest_apart a (p ∷ ps) o os e f = grind (arith, and_parts, apart_left, λ (g : left_from a ps ≡ o ∷ os). rest_apart a ps o os (grind arith) g)
+rest_apart a (p ∷ ps) o os e f =
+    let parts = and_parts (none_same p ps) (all_apart ps) e in
+    first_apart p (waited_for a p) (left_from a ps) o os (apart_left a p ps parts.0) (λ g. rest_apart a ps o os parts.1 g) f
 
 apart_unasked : (p : Place) (ws : List ℕ) (os : List Open) → Apart p os → Apart p (unasked ws os)
 apart_unasked p ws [] h = tt
@@ -104,7 +149,13 @@ apart_unasked_if b p ws os h = grind (arith, apart_unasked)
 
 keeps_none : (ws xs : List ℕ) → ((x : ℕ) → is_among x xs ≡ true → is_among x ws ≡ true) → others ws xs ≡ []
 keeps_none ws [] h = refl
-keeps_none ws (x ∷ xs) h = grind (arith, or_right, keeps_none ws xs (λ y e. h y (or_right (x == y) (is_among y xs) e)))
+keeps_none ws (x ∷ xs) h = by_among (is_among x ws) (h x (first x (is_among x xs))) (keeps_none ws xs (λ y e. h y (or_right (x == y) (is_among y xs) e))) where
+  first : (a : ℕ) (b : Bool) → ((a == a) || b) ≡ true
+  first a b = grind arith
+
+  by_among : (b : Bool) → b ≡ true → others ws xs ≡ [] → (if not b then x ∷ others ws xs else others ws xs) ≡ []
+  by_among true e ih = ih
+  by_among false e ih = absurd cc
 
 others_none : (ws : List ℕ) → others ws ws ≡ []
 others_none ws = keeps_none ws ws (λ x e. e)
@@ -129,7 +180,7 @@ module _ (now : ℕ) (a : Agenda) (asks : is_orders (open_place (groups_left a))
   apart_next : (os : List Open) → groups_left a ≡ os → Apart (open_place os) (advance (waits_now os) true os)
   apart_next [] e = tt
   apart_next (o ∷ os) e = subst (Apart o.place) (sym (left_after true o os))
-      (apart_unasked_if (is_orders o.place.group && true) o.place o.waits os (rest_apart a (places a.kind) o os (grind arith) e))
+      (apart_unasked_if (is_orders o.place.group && true) o.place o.waits os (rest_apart a (places a.kind) o os (kind_apart a.kind) e))
 
   next_apart : Apart (open_place (groups_left a)) (groups_left next)
   next_apart = subst (Apart (open_place (groups_left a))) (sym (groups_left-all_say Lost now ws a)) (apart_next (groups_left a) refl)

@@ -2,8 +2,8 @@
 -- belongs to it.
 use Rattle.promises.proofs.Words.{list_any, list_any-append, Level, System, Identify, PrepareBackup, PrepareSnapshot, Freeze, Thaw, PostSnapshot, BackupComplete, Said, Group, Orders, PreCommit}
 use Rattle.promises.proofs.Words.{Flush, Hold, Cut, Commit, Release, PostCommit, Snapshot, Place, Plan, after, said_stays, true_not_false, Deed, level_of, order_stage, stage, Rising}
-use Rattle.std.proofs.Common.{◌≡◌, ◌∙◌, ℕ, ◌==◌, ◌≤◌, ◌<◌, List, [], ◌∷◌, ◌++◌, Option, Some, None, refl, Bool, true, false, ap, map, filter, arith}
-use Rattle.std.specs.Prelude.{◌||◌, not}
+use Rattle.std.proofs.Common.{◌≡◌, ◌∙◌, ℕ, ◌==◌, ◌≤◌, ◌<◌, List, [], ◌∷◌, ◌++◌, Option, Some, None, refl, Bool, true, false, ap, sym, map, filter, arith}
+use Rattle.std.specs.Prelude.{◌||◌, not, if◌then◌else◌}
 use Rattle.std.proofs.lemmas.Bool.{or_left, or_right}
 use Rattle.set_agenda.specs.Agenda.{Agenda, Entry, Open, places, has_failed, has_said, writers_at, members_of, waited_for, with_group, left_from, groups_left, is_among, at_place, all_say}
 use Rattle.promises.proofs.Members.{chain, no_less, same_number}
@@ -26,7 +26,12 @@ any_more test log new = ap (list_any test) (deeds_append log new) ∙ list_any-a
 pub any_said : (test : Deed → Bool) (p : Place) (said : Said) (now : ℕ) (ws : List ℕ) (X : Type 0)
     → ((w : ℕ) → is_among w ws ≡ true → test (deed_at p.group w said now) ≡ true → X) → list_any test (map deed_in (map (at_place p said now) ws)) ≡ true → X
 any_said test p said now [] X f e = absurd cc
-any_said test p said now (w ∷ ws) X f e = grind (arith, or_right, or_left, same_number, any_said test p said now ws X (λ u i. f u (or_right (w == u) (is_among u ws) i)))
+any_said test p said now (w ∷ ws) X f e = by_head (test (deed_at p.group w said now)) refl e (any_said test p said now ws X (λ u i. f u (or_right (w == u) (is_among u ws) i)))
+  where
+    by_head : (b : Bool) → test (deed_at p.group w said now) ≡ b → (b || list_any test (map deed_in (map (at_place p said now) ws))) ≡ true
+        → (list_any test (map deed_in (map (at_place p said now) ws)) ≡ true → X) → X
+    by_head true g h ih = f w (or_left (w == w) (is_among w ws) (same_number w)) g
+    by_head false g h ih = ih h
 
 -- ## stages
 
@@ -57,6 +62,9 @@ leveled _ = false
 -- in a group that goes by levels the writer is of the group's level
 abbrev pub IsOfLevel : Plan → Place → ℕ → Type 0
 IsOfLevel s p w = leveled p.group ≡ true → level_of s w ≡ level_or p.level
+
+pub stage_at : (s : Plan) (g : Group) (l : Option Level) (who : ℕ) (said : Said) (now : ℕ) → (leveled g ≡ true → level_of s who ≡ level_or l) → stage s (deed_at g who said now) ≡ group_stage g l
+stage_at s g l who said now h = grind arith
 
 abbrev pub open_stage : List Open → ℕ
 open_stage [] = 15
@@ -92,7 +100,9 @@ stages_append s (x ∷ xs) ys = ap (λ zs. stage s x ∷ zs) (stages_append s xs
 pub stages_said : (s : Plan) (p : Place) (said : Said) (now : ℕ) (ws : List ℕ) → ((w : ℕ) → is_among w ws ≡ true → IsOfLevel s p w)
     → map (stage s) (map deed_in (map (at_place p said now) ws)) ≡ map (λ w. place_stage p) ws
 stages_said s p said now [] h = refl
-stages_said s p said now (w ∷ ws) h = grind (arith, or_left, same_number, or_right, stages_said s p said now ws (λ u e. h u (or_right (w == u) (is_among u ws) e)))
+stages_said s p said now (w ∷ ws) h =
+    ap (λ n. n ∷ map (stage s) (map deed_in (map (at_place p said now) ws))) (stage_at s p.group p.level w said now (h w (or_left (w == w) (is_among w ws) (same_number w))))
+    ∙ ap (λ ns. place_stage p ∷ ns) (stages_said s p said now ws (λ u e. h u (or_right (w == u) (is_among u ws) e)))
 
 pub stages_more : (s : Plan) (log : List Entry) (p : Place) (said : Said) (now : ℕ) (ws : List ℕ) → ((w : ℕ) → is_among w ws ≡ true → IsOfLevel s p w)
     → map (stage s) (map deed_in (log ++ map (at_place p said now) ws)) ≡ map (stage s) (map deed_in log) ++ map (λ w. place_stage p) ws
@@ -109,7 +119,25 @@ failed_stays log new w e = grind (arith, list_any-append, or_left)
 pub fewer_unfailed : (log new : List Entry) (p : Place) (xs : List ℕ) → filter (λ x. not (has_said log p x)) (filter (λ w. not (has_failed log w)) xs) ≡ []
     → filter (λ x. not (has_said (log ++ new) p x)) (filter (λ w. not (has_failed (log ++ new) w)) xs) ≡ []
 fewer_unfailed log new p [] e = refl
-fewer_unfailed log new p (x ∷ xs) e = grind (arith, failed_stays, said_stays, true_not_false, fewer_unfailed log new p xs)
+fewer_unfailed log new p (x ∷ xs) e =
+    by_head (has_failed log x) (has_failed (log ++ new) x) (has_said log p x) (has_said (log ++ new) p x) refl refl (failed_stays log new x) (said_stays log new p x) e (fewer_unfailed log new p xs)
+  where
+    keep : (c : Bool) (rest : List ℕ) → c ≡ true → rest ≡ [] → (if not c then x ∷ rest else rest) ≡ []
+    keep true rest e f = f
+    keep false rest e f = absurd cc
+
+    drops : (c : Bool) (rest : List ℕ) → (if not c then x ∷ rest else rest) ≡ [] → (c ≡ true) × (rest ≡ [])
+    drops true rest e = (refl, e)
+    drops false rest e = absurd cc
+
+    by_head : (f g b c : Bool) → has_said log p x ≡ b → has_said (log ++ new) p x ≡ c → (f ≡ true → g ≡ true) → (b ≡ true → c ≡ true)
+        → filter (λ x. not (has_said log p x)) (if not f then x ∷ filter (λ w. not (has_failed log w)) xs else filter (λ w. not (has_failed log w)) xs) ≡ []
+        → (filter (λ x. not (has_said log p x)) (filter (λ w. not (has_failed log w)) xs) ≡ [] → filter (λ x. not (has_said (log ++ new) p x)) (filter (λ w. not (has_failed (log ++ new) w)) xs) ≡ [])
+        → filter (λ x. not (has_said (log ++ new) p x)) (if not g then x ∷ filter (λ w. not (has_failed (log ++ new) w)) xs else filter (λ w. not (has_failed (log ++ new) w)) xs) ≡ []
+    by_head true true b c s t f g e ih = ih e
+    by_head true false b c s t f g e ih = absurd (true_not_false false (f refl) refl)
+    by_head false true b c s t f g e ih = ih (drops (has_said log p x) _ e).1
+    by_head false false b c s t f g e ih = let old = drops (has_said log p x) _ e in keep (has_said (log ++ new) p x) _ (t ∙ g (sym s ∙ old.0)) (ih old.1)
 
 module _ (said : Said) (now : ℕ) (ws : List ℕ) (a : Agenda) where
   abbrev pub new_log : List Entry
@@ -147,7 +175,10 @@ From m (p ∷ ps) = (m ≤ place_stage p) × From (place_stage p) ps
 
 pub not_before : (a : Agenda) (m : ℕ) (ps : List Place) → From m ps → m ≤ open_stage (left_from a ps)
 not_before a m [] h = h
-not_before a m (p ∷ ps) h = grind (arith, chain, not_before a (place_stage p) ps h.1)
+not_before a m (p ∷ ps) h = at_group (waited_for a p) (left_from a ps) (not_before a (place_stage p) ps h.1) where
+  at_group : (ws : List ℕ) (later : List Open) → place_stage p ≤ open_stage later → m ≤ open_stage (with_group p ws later)
+  at_group [] later l = chain m (place_stage p) (open_stage later) h.0 l
+  at_group (w ∷ ws) later l = h.0
 
 pub goes_up : (a b : Agenda) (m : ℕ) (ps : List Place) → From m ps → ((p : Place) → waited_for a p ≡ [] → waited_for b p ≡ []) → open_stage (left_from a ps) ≤ open_stage (left_from b ps)
 goes_up a b m [] h stays = no_less 15
@@ -156,7 +187,12 @@ goes_up a b m (p ∷ ps) h stays =
   where
     at_group : (ws us : List ℕ) (later after : List Open) → (ws ≡ [] → us ≡ []) → place_stage p ≤ open_stage after → open_stage later ≤ open_stage after
         → open_stage (with_group p ws later) ≤ open_stage (with_group p us after)
-    at_group ws us later after f l ih = grind (arith, no_less)
+    at_group [] [] later after f l ih = ih
+    at_group [] (u ∷ us) later after f l ih = absurd (none u us (f refl)) where
+      none : (u : ℕ) (us : List ℕ) → u ∷ us ≡ [] → ⊥
+      none u us e = cc
+    at_group (w ∷ ws) [] later after f l ih = l
+    at_group (w ∷ ws) (u ∷ us) later after f l ih = no_less (place_stage p)
 
 -- the groups below the open one are closed
 abbrev pub Closed : Agenda → ℕ → List Place → Type 0
@@ -165,11 +201,19 @@ Closed a k (p ∷ ps) = (place_stage p < k → waited_for a p ≡ []) × Closed 
 
 pub none_below : (a : Agenda) (m k : ℕ) (ps : List Place) → From m ps → k ≤ m → Closed a k ps
 none_below a m k [] h l = tt
-none_below a m k (p ∷ ps) h l = grind (arith, chain, none_below a (place_stage p) k ps h.1 (chain k m (place_stage p) l h.0))
+none_below a m k (p ∷ ps) h l = (λ i. absurd (over m (place_stage p) k h.0 l i), none_below a (place_stage p) k ps h.1 (chain k m (place_stage p) l h.0)) where
+  over : (m g k : ℕ) → m ≤ g → k ≤ m → g < k → ⊥
+  over m g k h l i = omega arith
 
 pub closed_below : (a : Agenda) (m : ℕ) (ps : List Place) → From m ps → Closed a (open_stage (left_from a ps)) ps
 closed_below a m [] h = tt
-closed_below a m (p ∷ ps) h = grind (arith, none_below, no_less, closed_below a (place_stage p) ps h.1)
+closed_below a m (p ∷ ps) h = at_group (waited_for a p) (left_from a ps) refl (closed_below a (place_stage p) ps h.1) where
+  itself : (n : ℕ) → n < n → ⊥
+  itself n l = omega arith
+
+  at_group : (ws : List ℕ) (later : List Open) → waited_for a p ≡ ws → Closed a (open_stage later) ps → Closed a (open_stage (with_group p ws later)) (p ∷ ps)
+  at_group [] later e c = (λ l. e, c)
+  at_group (w ∷ ws) later e c = (λ l. absurd (itself (place_stage p) l), none_below a (place_stage p) (place_stage p) ps h.1 (no_less (place_stage p)))
 
 pub snapshot_from : From 0 (places Snapshot)
 snapshot_from = grind arith
